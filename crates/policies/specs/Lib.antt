@@ -1,0 +1,6 @@
+pub mod DepthIsolation
+pub mod DepthLaw
+pub mod DepthTag
+pub mod DepthViolation
+pub mod WriteOrExecute
+pub mod WriteOrExecuteLaw
