@@ -7,7 +7,10 @@ use Rattle.rulebook.specs.declared.group.Group.{Group}
 use Rattle.rulebook.specs.declared.group.Group.the-variants.{Load, Store, Call, Ret, Fetch}
 use Rattle.rulebook.specs.declared.question.Question.{Question}
 use Rattle.policies.specs.DepthIsolation.{depth-isolation}
+use Rattle.instruction.specs.declared.operation.Operation.the-variants.{Sub, Shl}
+use Rattle.instruction.specs.Operation.{computed}
 use Rattle.cases.specs.declared.case.Case.{Case}
+use Rattle.cases.specs.declared.case.Case.the-variants.{Asked, Computed}
 
 -- a question in which b has no part: group, pc, ci, a and m
 abbrev pub asks : Group → ℕ → ℕ → ℕ → ℕ → Question
@@ -15,16 +18,19 @@ asks group pc ci a m = record { group = group; pc = pc; ci = ci; a = a; b = 0; m
 
 abbrev pub marked : List Case
 marked =
-    record { question = asks Fetch 0 16 0 0; answer = Allowed 0 0 }
-    ∷ record { question = asks Fetch 0 256 0 0; answer = Denied 2 }
-    ∷ record { question = asks Load 1 16 0 769; answer = Allowed 1 512 }
-    ∷ record { question = asks Load 1 16 0 256; answer = Denied 4 }
-    ∷ record { question = asks Store 1 16 513 257; answer = Denied 7 }
-    ∷ record { question = asks Call 254 16 0 0; answer = Allowed 255 766 }
-    ∷ record { question = asks Call 255 16 0 0; answer = Denied 9 }
-    ∷ record { question = asks Ret 0 16 512 0; answer = Denied 10 }
-    ∷ record { question = asks Store 1 17 512 1; answer = Allowed 1 769 }
+    Asked (asks Fetch 0 16 0 0) (Allowed 0 0)
+    ∷ Asked (asks Fetch 0 256 0 0) (Denied 2)
+    ∷ Asked (asks Load 1 16 0 769) (Allowed 1 512)
+    ∷ Asked (asks Load 1 16 0 256) (Denied 4)
+    ∷ Asked (asks Store 1 16 513 257) (Denied 7)
+    ∷ Asked (asks Call 254 16 0 0) (Allowed 255 766)
+    ∷ Asked (asks Call 255 16 0 0) (Denied 9)
+    ∷ Asked (asks Ret 0 16 512 0) (Denied 10)
+    ∷ Asked (asks Store 1 17 512 1) (Allowed 1 769)
+    ∷ Computed Sub 0 1 4294967295
+    ∷ Computed Shl 1 33 2
     ∷ []
 
 abbrev pub Holds : Case → Type 0
-Holds case = depth-isolation (case .question) ≡ case .answer
+Holds (Asked question answer) = depth-isolation question ≡ answer
+Holds (Computed op x y result) = computed op x y ≡ result

@@ -3,6 +3,7 @@ ghost use Rattle.std.specs.shelf.Lists.{All};
 ghost use Rattle.cases.specs.Marked.{asks as asked, marked, Holds};
 ghost use Rattle.rulebook.specs.declared.answer.NarrowAnswer.the-variants.{Allowed, Denied};
 use super::case::Case;
+use instruction::Operation;
 use rulebook::Group;
 use rulebook::NarrowAnswer;
 use rulebook::Question;
@@ -22,25 +23,31 @@ fn asks(group: Group, pc: u32, ci: u32, a: u32, m: u32) -> Question
 }
 
 fn allowed(question: Question, pc: u32, r: u32) -> Case
-    ensures { λ c. ⌜ c ≡ record { question = question; answer = Allowed pc r } ⌝ }
+    ensures { λ c. ⌜ c ≡ Case.Asked question (Allowed pc r) ⌝ }
 {
-    Case {
+    Case::Asked {
         question,
         answer: NarrowAnswer::Allowed { pc, r },
     }
 }
 
 fn denied(question: Question, violation: u8) -> Case
-    ensures { λ c. ⌜ c ≡ record { question = question; answer = Denied violation } ⌝ }
+    ensures { λ c. ⌜ c ≡ Case.Asked question (Denied violation) ⌝ }
 {
-    Case {
+    Case::Asked {
         question,
         answer: NarrowAnswer::Denied { violation },
     }
 }
 
-/// The cases by which a reader can tell that the rules are the ones that were meant.
-pub fn marked_cases() -> [Case; 9]
+fn computed(op: Operation, x: u32, y: u32, result: u32) -> Case
+    ensures { λ c. ⌜ c ≡ Case.Computed op x y result ⌝ }
+{
+    Case::Computed { op, x, y, result }
+}
+
+/// The cases by which a reader can tell that the rules and the arithmetic are the ones that were meant.
+pub fn marked_cases() -> [Case; 11]
     ensures table { λ r. ⌜ r ≡ marked ⌝ }
     ensures hold { λ _. ⌜ All Holds marked ⌝ }
 {
@@ -54,5 +61,7 @@ pub fn marked_cases() -> [Case; 9]
         denied(asks(Group::Call, 255, 16, 0, 0), 9),
         denied(asks(Group::Ret, 0, 16, 512, 0), 10),
         allowed(asks(Group::Store, 1, 17, 512, 1), 1, 769),
+        computed(Operation::Sub, 0, 1, 4294967295),
+        computed(Operation::Shl, 1, 33, 2),
     ]
 }

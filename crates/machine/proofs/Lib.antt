@@ -1,0 +1,5 @@
+pub mod Programs
+pub mod RunLaws
+pub mod Runs
+pub mod StepLaws
+pub mod Steps

@@ -1,0 +1,11 @@
+pub mod Calls
+pub mod Cause
+pub mod Cells
+pub mod Effect
+pub mod Program
+pub mod Run
+pub mod RunCall
+pub mod RunLaw
+pub mod Step
+pub mod StepCall
+pub mod StepLaw
