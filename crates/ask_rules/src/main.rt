@@ -1,4 +1,6 @@
 //! Reads questions, one a line, puts each to cached Depth Isolation and prints the answers.
+#![tactic(auto)]
+
 use policies::DepthIsolation;
 use rulebook::{Alone, Cache};
 use std::io::{BufRead, BufReader};

@@ -1,4 +1,6 @@
 //! Worked cases: proved of the definitions, and run against the code.
+#![tactic(auto)]
+
 mod case;
 mod marked;
 mod routine;

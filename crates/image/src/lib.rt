@@ -1,4 +1,6 @@
 //! Images: a maker's routine as bytes, and how it is loaded into a machine.
+#![tactic(auto)]
+
 mod fault;
 mod name;
 mod section;

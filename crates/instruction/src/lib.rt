@@ -1,4 +1,6 @@
 //! Instruction words: what they say, and what the arithmetic operations compute.
+#![tactic(auto)]
+
 mod decode;
 mod instruction;
 mod operation;

@@ -1,4 +1,6 @@
 //! The machine that a rulebook watches: memory cells, sixteen registers, one step and a run of steps.
+#![tactic(auto)]
+
 mod cell;
 mod records;
 mod state;

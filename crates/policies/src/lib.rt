@@ -1,4 +1,6 @@
 //! The rulebooks that decide from tags alone.
+#![tactic(auto)]
+
 mod depth_isolation;
 mod write_or_execute;
 

@@ -1,4 +1,6 @@
 //! Why a call is refused.
+#![tactic(auto)]
+
 mod refusal;
 
 pub use refusal::Refusal;

@@ -1,8 +1,8 @@
-ghost use Rattle.std.specs.Prelude.{◌≡◌, ◌++◌, Some, codes, decimal, Decides};
+ghost use Rattle.std.specs.Prelude.{◌≡◌, ◌++◌, Some, codes, decimal, Decides, ◌==◌};
 ghost use Rattle.refusal.specs.Refusal.{refusal_number};
 ghost use Rattle.std.specs.Cmp.Rules.{comparing};
 ghost use Rattle.std.proofs.Common.{rules};
-ghost use Rattle.std.specs.Cmp as Keys;
+ghost use Rattle.std.specs.Ordering.{on};
 
 use std::error::Error;
 use std::fmt;
@@ -42,11 +42,14 @@ impl Refusal {
 
 // Written out, since a derived comparison of many variants promises nothing.
 impl PartialEq for Refusal {
-    ghost equals = { λ x y r. Decides r (x ≡ y) };
+    ghost eq = { on refusal_number ◌==◌ };
 
-    ghost laws = { Keys.partial_equiv_from_equiv (Prim.search (comparing, rules)) };
+    ghost laws = { Prim.search (comparing, rules) };
 
-    fn eq(&self, other: &Refusal) -> bool {
+    fn eq(&self, other: &Refusal) -> bool
+        ensures gives { result ≡ on refusal_number ◌==◌ self.now other.now }
+        ensures decides { Decides result (self.now ≡ other.now) }
+    {
         self.number() == other.number()
     }
 }

@@ -1,4 +1,6 @@
 //! The lines that are printed of a run, and of an image that is not loaded.
+#![tactic(auto)]
+
 mod end;
 mod lines;
 mod out;

@@ -1,5 +1,6 @@
 -- Questions: when two are the same, and the two halves of their tags.
 use Rattle.std.specs.Prelude.{ℕ, ◌/◌, ◌%◌, ◌^◌, Bool, ◌&&◌, ◌==◌}
+use Rattle.std.specs.Cmp.{IsEquivalence, and_equiv, on_equiv, nat_eq_equiv}
 use Rattle.rulebook.specs.declared.question.Question.{Question}
 use Rattle.rulebook.specs.Group.{number_of}
 
@@ -19,3 +20,10 @@ abbrev pub same : Question → Question → Bool
 same p q =
     (number_of p.group == number_of q.group)
     && p.pc == q.pc && p.ci == q.ci && p.a == q.a && p.b == q.b && p.m == q.m
+
+-- every question is the same as itself, two are so both ways round, and so are three along a chain
+pub same_laws : IsEquivalence same
+same_laws =
+    let by : (Question → ℕ) → Question → Question → Bool = λ part p q. part p == part q in
+    let law : (part : Question → ℕ) → IsEquivalence (by part) = λ part. on_equiv part nat_eq_equiv in
+    and_equiv (and_equiv (and_equiv (and_equiv (and_equiv (law (λ q. number_of q.group)) (law (λ q. q.pc))) (law (λ q. q.ci))) (law (λ q. q.a))) (law (λ q. q.b))) (law (λ q. q.m))

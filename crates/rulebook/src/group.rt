@@ -1,8 +1,8 @@
-ghost use Rattle.std.specs.Prelude.{◌≡◌, ◌<◌, Decides, MatchOption};
+ghost use Rattle.std.specs.Prelude.{◌≡◌, ◌<◌, Decides, MatchOption, ◌==◌};
 ghost use Rattle.rulebook.specs.Group.{number_of};
 ghost use Rattle.std.specs.Cmp.Rules.{comparing};
 ghost use Rattle.std.proofs.Common.{rules};
-ghost use Rattle.std.specs.Cmp as Keys;
+ghost use Rattle.std.specs.Ordering.{on};
 
 /// What is asked about: an op of the machine, the fetch of an instruction, or a word posted from outside.
 #[derive(Clone, Copy, Debug)]
@@ -64,11 +64,14 @@ impl Group {
 
 // Written out, since a derived comparison of so many variants promises nothing.
 impl PartialEq for Group {
-    ghost equals = { λ x y r. Decides r (x ≡ y) };
+    ghost eq = { on number_of ◌==◌ };
 
-    ghost laws = { Keys.partial_equiv_from_equiv (Prim.search (comparing, rules)) };
+    ghost laws = { Prim.search (comparing, rules) };
 
-    fn eq(&self, other: &Group) -> bool {
+    fn eq(&self, other: &Group) -> bool
+        ensures gives { result ≡ on number_of ◌==◌ self.now other.now }
+        ensures decides { Decides result (self.now ≡ other.now) }
+    {
         self.number() == other.number()
     }
 }

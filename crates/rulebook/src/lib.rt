@@ -1,4 +1,6 @@
 //! The interface that every rulebook keeps, and the rulebooks made of others: one alone, a pair, a cache.
+#![tactic(auto)]
+
 mod alone;
 mod answer;
 mod cache;

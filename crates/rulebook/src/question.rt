@@ -1,8 +1,6 @@
 ghost use Rattle.std.specs.Prelude.{◌≡◌, Decides};
-ghost use Rattle.rulebook.specs.Question.{each, low, high};
-ghost use Rattle.std.specs.Cmp.Rules.{comparing};
-ghost use Rattle.std.proofs.Common.{rules};
-ghost use Rattle.std.specs.Cmp as Keys;
+ghost use Rattle.rulebook.specs.Question.{each, low, high, same, same_laws};
+ghost use Rattle.std.specs.Cmp.{partial_equiv_from_equiv};
 
 use super::group::Group;
 
@@ -48,11 +46,14 @@ impl Question {
 }
 
 impl PartialEq for Question {
-    ghost equals = { λ x y r. Decides r (x ≡ y) };
+    ghost eq = { same };
 
-    ghost laws = { Keys.partial_equiv_from_equiv (Prim.search (comparing, rules)) };
+    ghost laws = { partial_equiv_from_equiv same_laws };
 
-    fn eq(&self, other: &Question) -> bool {
+    fn eq(&self, other: &Question) -> bool
+        ensures gives { result ≡ same self.now other.now }
+        ensures decides { Decides result (self.now ≡ other.now) }
+    {
         self.group == other.group
             && self.pc == other.pc
             && self.ci == other.ci
@@ -63,5 +64,5 @@ impl PartialEq for Question {
 }
 
 impl Eq for Question {
-    ghost laws = { Prim.search (comparing, rules) };
+    ghost laws = { same_laws };
 }

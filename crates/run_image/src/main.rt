@@ -1,4 +1,6 @@
 //! Reads an image, loads it and runs it under cached Depth Isolation, and prints what it shows and how it ends.
+#![tactic(auto)]
+
 mod running;
 
 use image::{Name, cells_named};

@@ -1,4 +1,6 @@
 //! Runs two routines under cached Depth Isolation and prints what each shows and how it ends.
+#![tactic(auto)]
+
 mod routines;
 
 use anyhow::anyhow;

@@ -1,4 +1,6 @@
 //! Questions and answers as lines of text.
+#![tactic(auto)]
+
 mod answer;
 mod asking;
 mod numbers;

@@ -15,8 +15,8 @@ grown records i entry text more below begun line =
 
 pub loop-entry-preserved : goal.loop-entry-preserved
 loop-entry-preserved c =
-    c.in-ok-push-str.ensures.bytes
-    ∙ grown c.args.records.now c.loop-entry.entry-index _ _ _ (omega arith) c.loop-entry.invariant (c.as-str.ensures.value ∙ c.in-ok-line.ensures)
+    c.in_ok-push_str.ensures.bytes
+    ∙ grown c.args.records.now c.loop-entry.entry-index _ _ _ (omega arith) c.loop-entry.invariant (c.as_str.ensures.value ∙ c.in_ok-line.ensures)
 
 pub returns : goal.returns
 returns c =

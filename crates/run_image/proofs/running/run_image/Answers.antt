@@ -13,6 +13,6 @@ fits state cells registers size limits named kept sixteen = rw (kept, named, six
 
 pub run-requires : goal.run-requires
 run-requires g c =
-    let loads = c.in-ok-live.ensures.loads in
+    let loads = c.in_ok-live.ensures.loads in
     let gives = loads.exact loads.header loads.parts loads.is in
-    fits c.in-ok-live.field-0.live.state _ _ (length c.args.cells.now) loads.limits (ap (λ live. live.state.size) gives.live) c.load.auto.cells (ap length gives.registers ∙ length-replicate 16 blank)
+    fits c.in_ok-live.field-0.live.state _ _ (length c.args.cells.now) loads.limits (ap (λ live. live.state.size) gives.live) c.load.auto.cells (ap length gives.registers ∙ length-replicate 16 blank)

@@ -7,5 +7,5 @@ pub returns : goal.returns
 returns c =
     let ns = c.args.numbers in
     let long : length ns ≡ 6 = omega arith in
-    let first : number_of c.in-ok-group.group ≡ get_or ns 0 0 = c.in-ok-group.ensures in
+    let first : number_of c.in_ok-group.group ≡ get_or ns 0 0 = c.in_ok-group.ensures in
     sym (six_places ns long) ∙ ap (λ n. n ∷ get_or ns 1 0 ∷ get_or ns 2 0 ∷ get_or ns 3 0 ∷ get_or ns 4 0 ∷ get_or ns 5 0 ∷ []) (sym first)

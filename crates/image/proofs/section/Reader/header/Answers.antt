@@ -7,5 +7,5 @@ returns-in-Ok c =
     let said = c.in-Ok.ensures.says in
     record {
       fits = said.1;
-      passed = passed c.args.size _ _ _ c.in-ok-span.span c.in-ok-span.ensures c.requires (header_section c.in-Ok.header) said.0;
+      passed = passed c.args.size _ _ _ c.in_ok-span.span c.in_ok-span.ensures c.requires (header_section c.in-Ok.header) said.0;
     }

@@ -4,21 +4,21 @@ use Rattle.image.proofs.section.Reader.obey_part.Goals as goal
 
 pub returns-in-Names : goal.returns-in-Names
 returns-in-Names c =
-    let read = c.in-ok-span.ensures in
-    let span = c.in-ok-span.span in
+    let read = c.in_ok-span.ensures in
+    let span = c.in_ok-span.span in
     let image = c.args.image.now in
-    let kind = list_kind _ image span c.in-ok-span.content c.in-Names.is read.says in
-    let same = c.store.ensures ∙ list_cells image c.in-ok-span.content c.args.cells.now c.in-Names.is in
+    let kind = list_kind _ image span c.in_ok-span.content c.in-Names.is read.says in
+    let same = c.store.ensures ∙ list_cells image c.in_ok-span.content c.args.cells.now c.in-Names.is in
     record {
       obeys = rw (c.list.ensures.stands, same)
           (list_obeyed _ image _ _ span read.opened c.requires kind _ _ _ _ c.list.result.names _ c.list.ensures.lists c.args.cells.now c.list.result.broken refl);
       loan = c.list.ensures.loan;
     }
 
-pub returns-in-default : goal.returns-in-default
-returns-in-default c =
-    let read = c.in-ok-span.ensures in
+pub returns-in_default : goal.returns-in_default
+returns-in_default c =
+    let read = c.in_ok-span.ensures in
     record {
-      obeys = plain_obeyed _ _ _ _ c.in-ok-span.span read.opened c.requires c.in-ok-span.content read.says c.in-default.not-Names _ _ _ _ c.store.ensures;
+      obeys = plain_obeyed _ _ _ _ c.in_ok-span.span read.opened c.requires c.in_ok-span.content read.says c.in_default.not-Names _ _ _ _ c.store.ensures;
       loan = refl;
     }

@@ -13,16 +13,16 @@ loop-self-init c =
 
 pub loop-self-preserved : goal.loop-self-preserved
 loop-self-preserved c = (
-  progress_more c.args.size c.args.image.now c.args.self.now _ _ _ _ _ _ _ _ c.loop-self.met c.in-ok-name.name c.loop-self.invariant.0 c.in-ok-name.ensures
+  progress_more c.args.size c.args.image.now c.args.self.now _ _ _ _ _ _ _ _ c.loop-self.met c.in_ok-name.name c.loop-self.invariant.0 c.in_ok-name.ensures
       c.append.ensures.elements c.append.ensures.room,
   c.append.ensures.loan ∙ c.loop-self.invariant.1,
 )
 
-pub returns-in-err-name : goal.returns-in-err-name
-returns-in-err-name c =
-    let p = err_from_is_err_and c.from-residual.result c.from-residual.ensures.1 in
+pub returns-in_err-name : goal.returns-in_err-name
+returns-in_err-name c =
+    let p = err_from_is_err_and c.from_residual.result c.from_residual.ensures.1 in
     let so_far = c.loop-self.invariant.0 in
-    let none = c.in-err-name.ensures in
+    let none = c.in_err-name.ensures in
     let reader = c.loop-self.self in
     let left = length_window reader c.args.image.now so_far.within in
     let some = ne_false (length (window reader c.args.image.now)) 0 (λ e. omega arith) in

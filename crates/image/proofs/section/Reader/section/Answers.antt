@@ -7,9 +7,9 @@ returns-then-left-lt-HEAD c = missed_head c.args.image.now c.args.self.now c.req
 
 pub returns-then-left-length : goal.returns-then-left-length
 returns-then-left-length c =
-    missed_body c.args.image.now c.args.self.now c.requires c.u32-at-length.result (omega arith) (omega arith) c.u32-at-length.ensures.value (omega arith)
+    missed_body c.args.image.now c.args.self.now c.requires c.u32_at-length.result (omega arith) (omega arith) c.u32_at-length.ensures.value (omega arith)
 
 pub returns : goal.returns
 returns c =
-    opened c.args.image.now c.args.self.now c.requires c.u32-at-length.result (omega arith) (omega arith) c.u32-at-length.ensures.value
-    c.u16-at.result c.u16-at.ensures (omega arith) c.u32-at-length.ensures.bytes
+    opened c.args.image.now c.args.self.now c.requires c.u32_at-length.result (omega arith) (omega arith) c.u32_at-length.ensures.value
+    c.u16_at.result c.u16_at.ensures (omega arith) c.u32_at-length.ensures.bytes

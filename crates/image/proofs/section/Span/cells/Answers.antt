@@ -19,4 +19,4 @@ returns c =
     let image = c.args.image.now in
     let long = body_length image c.args.self c.requires.fits in
     let here = body_front image c.args.self c.requires.fits 2 (omega arith) in
-    ap Some (c.u16-at.ensures ∙ sym here) ∙ sym (named (marked image c.args.self) c.if-self-ne-HEADER.false (long ∙ c.if-self-ne-HEADER-LENGTH.false))
+    ap Some (c.u16_at.ensures ∙ sym here) ∙ sym (named (marked image c.args.self) c.if-self-ne-HEADER.false (long ∙ c.if-self-ne-HEADER_LENGTH.false))

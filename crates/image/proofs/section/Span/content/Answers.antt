@@ -5,8 +5,8 @@ use Rattle.image.proofs.Judgements.{note_fine}
 use Rattle.image.proofs.Numbers.{bytes_from}
 use Rattle.image.proofs.section.Span.content.Goals as goal
 
-pub returns-in-default : goal.returns-in-default
-returns-in-default c =
+pub returns-in_default : goal.returns-in_default
+returns-in_default c =
     let image = c.args.image.now in
     let bytes = bytes_from image (λ i. omega (arith, (c.type-inv.image i).fits)) in
     record {

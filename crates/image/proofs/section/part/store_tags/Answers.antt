@@ -14,7 +14,7 @@ one_more address i count tag cells lt =
 
 pub loop-i-preserved : goal.loop-i-preserved
 loop-i-preserved c =
-    rw c.store-tag.ensures
+    rw c.store_tag.ensures
     (one_more c.args.address c.loop-i.i c.args.count c.args.tag c.loop-i.cells c.loop-i-test.true ∙ c.loop-i.invariant)
 
 pub returns : goal.returns

@@ -16,7 +16,7 @@ one_more image address first count i tag cells lt =
 
 pub loop-i-preserved : goal.loop-i-preserved
 loop-i-preserved c =
-    rw c.store-word.ensures
+    rw c.store_word.ensures
     (one_more c.args.image.now c.args.address c.args.first c.args.count c.loop-i.i c.args.tag c.loop-i.cells c.loop-i-test.true ∙ c.loop-i.invariant)
 
 pub returns : goal.returns

@@ -13,11 +13,11 @@ bounds-self-self g c = below c.args.self.now c.requires
 pub bounds-self-self-2 : goal.bounds-self-self-2
 bounds-self-self-2 g c = below c.args.self.now c.requires
 
-pub overflow-add-self : goal.overflow-add-self
-overflow-add-self g c = let h = below c.args.self.now c.requires in search rules
+pub overflow_add-self : goal.overflow_add-self
+overflow_add-self g c = let h = below c.args.self.now c.requires in search rules
 
-pub invariant-of-self-2 : goal.invariant-of-self-2
-invariant-of-self-2 g c = let h = below c.args.self.now c.requires in (simp length-set (omega arith), tt)
+pub invariant_of-self-2 : goal.invariant_of-self-2
+invariant_of-self-2 g c = let h = below c.args.self.now c.requires in record { within = simp length-set (omega arith) }
 
 pub returns : goal.returns
 returns g c =

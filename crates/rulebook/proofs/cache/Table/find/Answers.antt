@@ -8,12 +8,12 @@ use Rattle.rulebook.proofs.cache.Table.find.Goals as goal
 
 pub returns-then-eq : goal.returns-then-eq
 returns-then-eq c =
-    sym (found _ c.loop-entry.entry-index _ c.args.q c.loop-entry-test.true c.loop-entry.invariant (c.eq.ensures.0 c.if-eq.true))
+    sym (found _ c.loop-entry.entry-index _ c.args.q c.loop-entry-test.true c.loop-entry.invariant (c.eq.ensures.decides.0 c.if-eq.true))
     ∙ ap (λ n. recall (take n c.args.self.now.entries) c.args.q) (sub-zero c.args.self.now.used)
 
 pub loop-entry-preserved : goal.loop-entry-preserved
 loop-entry-preserved c =
-    passed _ c.loop-entry.entry-index _ c.args.q c.loop-entry-test.true c.loop-entry.invariant (λ e. both_ways c.eq.result c.if-eq.false (c.eq.ensures.1 e))
+    passed _ c.loop-entry.entry-index _ c.args.q c.loop-entry-test.true c.loop-entry.invariant (λ e. both_ways c.eq.result c.if-eq.false (c.eq.ensures.decides.1 e))
 
 pub returns : goal.returns
 returns c =

@@ -3,10 +3,10 @@ use Rattle.machine.specs.declared.state.End.TheVariants.{Stopped, Spent}
 use Rattle.machine.proofs.Runs.{run_spent, run_over, run_waits, whole_on, whole_off, same_size}
 use Rattle.machine.proofs.step.order.run.run_on.Goals as goal
 
-pub returns-in-default : goal.returns-in-default
-returns-in-default g c =
+pub returns-in_default : goal.returns-in_default
+returns-in_default g c =
     let i = c.loop-made.invariant in
-    let e = c.in-default.ensures in
+    let e = c.in_default.ensures in
     let some : 0 < c.args.budget - c.loop-made.-made = omega arith in
     record {
       runs = run_waits _ _ _ _ _ _ _ _ _ c.loop-made.state _ _ _ _ _ _ _ _ some e.turns i.3;

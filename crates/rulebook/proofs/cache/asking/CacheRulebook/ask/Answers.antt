@@ -11,7 +11,7 @@ returns-in-Allowed g c =
     let before = entries_of c.args.self.now in
     let e : Entry = record { question = c.args.q; pc = c.in-Allowed.pc; r = c.in-Allowed.r } in
     let below = g.R.Rulebook.meaning c.args.self.now.below in
-    let none : recall before c.args.q ≡ None = sym c.find.ensures ∙ c.in-default.is in
+    let none : recall before c.args.q ≡ None = sym c.find.ensures ∙ c.in_default.is in
     let allowed : below c.args.q ≡ Allowed c.in-Allowed.pc c.in-Allowed.r = sym c.ask-answer.ensures.answers ∙ c.in-Allowed.is in
     record {
       answers = sym (ap (λ o. if_recalled o (below c.args.q)) none ∙ allowed);

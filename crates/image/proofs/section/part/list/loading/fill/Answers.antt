@@ -16,7 +16,7 @@ returns c =
     let cleared = c.clear.ensures in
     let same : length c.clear.new.cells ≡ size = ap length cleared ∙ length-replicate size blank in
     record {
-      loads = loads size small c.args.image.now c.args.header _ _ _ _ _ _ _ limits c.requires.accepts (rw (same, cleared) at c.obey-accepted-broken.ensures.obeys)
+      loads = loads size small c.args.image.now c.args.header _ _ _ _ _ _ _ limits c.requires.accepts (rw (same, cleared) at c.obey_accepted-broken.ensures.obeys)
           c.live-live.ensures (c.clear-2.ensures ∙ ap (λ n. replicate n blank) sixteen);
-      loan = c.obey-accepted-broken.ensures.loan;
+      loan = c.obey_accepted-broken.ensures.loan;
     }

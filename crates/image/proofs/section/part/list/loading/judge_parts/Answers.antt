@@ -6,14 +6,14 @@ pub loop-reader-init : goal.loop-reader-init
 loop-reader-init c = judging_none c.args.size c.args.image.now c.args.reader c.args.free c.requires
 
 pub loop-reader-smaller : goal.loop-reader-smaller
-loop-reader-smaller c = let judged = c.in-ok-free.ensures in fewer _ _ _ judged.part judged.passed c.loop-reader-test.true
+loop-reader-smaller c = let judged = c.in_ok-free.ensures in fewer _ _ _ judged.part judged.passed c.loop-reader-test.true
 
 pub loop-reader-preserved : goal.loop-reader-preserved
 loop-reader-preserved c =
-    judging_more c.args.size c.args.image.now c.args.reader c.args.free _ _ _ _ c.loop-reader.invariant c.in-ok-free.ensures
+    judging_more c.args.size c.args.image.now c.args.reader c.args.free _ _ _ _ c.loop-reader.invariant c.in_ok-free.ensures
 
-pub returns-in-err-free : goal.returns-in-err-free
-returns-in-err-free c =
-    let p = err_from_is_err_and c.from-residual.result c.from-residual.ensures.1 in
+pub returns-in_err-free : goal.returns-in_err-free
+returns-in_err-free c =
+    let p = err_from_is_err_and c.from_residual.result c.from_residual.ensures.1 in
     rw (p.1, p.2)
-    (judging_refused c.args.size c.args.image.now c.args.reader c.args.free _ _ _ c.loop-reader.invariant c.loop-reader-test.true c.in-err-free.ensures)
+    (judging_refused c.args.size c.args.image.now c.args.reader c.args.free _ _ _ c.loop-reader.invariant c.loop-reader-test.true c.in_err-free.ensures)

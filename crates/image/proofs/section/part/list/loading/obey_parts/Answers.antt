@@ -12,19 +12,19 @@ pub loop-reader-init : goal.loop-reader-init
 loop-reader-init c = (obeying_none _ _ _ _ _ _ c.requires, refl)
 
 pub loop-reader-smaller : goal.loop-reader-smaller
-loop-reader-smaller c = let obeyed = c.in-ok-breaks.ensures.obeys in fewer _ _ _ obeyed.part obeyed.passed c.loop-reader-test.true
+loop-reader-smaller c = let obeyed = c.in_ok-breaks.ensures.obeys in fewer _ _ _ obeyed.part obeyed.passed c.loop-reader-test.true
 
 pub loop-reader-preserved : goal.loop-reader-preserved
 loop-reader-preserved c =
     let i = c.loop-reader.invariant in
-    let e = c.in-ok-breaks.ensures in
-    let added : c.from-broken.result ≡ cond c.in-ok-breaks.breaks 1 0 = c.from-broken.ensures ∙ byte c.in-ok-breaks.breaks in
-    (rw added (obeying_more _ _ _ _ _ _ _ _ _ _ _ _ _ _ c.loop-reader.broken c.in-ok-breaks.breaks i.0 (rw c.loop-reader.auto.cells at e.obeys)), e.loan ∙ i.1)
+    let e = c.in_ok-breaks.ensures in
+    let added : c.from-broken.result ≡ cond c.in_ok-breaks.breaks 1 0 = c.from-broken.ensures ∙ byte c.in_ok-breaks.breaks in
+    (rw added (obeying_more _ _ _ _ _ _ _ _ _ _ _ _ _ _ c.loop-reader.broken c.in_ok-breaks.breaks i.0 (rw c.loop-reader.auto.cells at e.obeys)), e.loan ∙ i.1)
 
-pub returns-in-err-breaks : goal.returns-in-err-breaks
-returns-in-err-breaks c =
-    let p = err_from_is_err_and c.from-residual.result c.from-residual.ensures.1 in
+pub returns-in_err-breaks : goal.returns-in_err-breaks
+returns-in_err-breaks c =
+    let p = err_from_is_err_and c.from_residual.result c.from_residual.ensures.1 in
     let i = c.loop-reader.invariant in
-    let e = c.in-err-breaks.ensures in
+    let e = c.in_err-breaks.ensures in
     rw (p.1, p.2)
     (record { obeys = obeying_stops _ _ _ _ _ _ _ _ _ _ c.loop-reader.broken _ i.0 c.loop-reader-test.true (rw c.loop-reader.auto.cells at e.obeys); loan = e.loan ∙ i.1 })
