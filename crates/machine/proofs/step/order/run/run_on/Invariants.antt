@@ -13,5 +13,5 @@ invariant-loop-made g l =
     ((q : Question) → g.R.Rulebook.meaning l.rules q ≡ μ q)
     × (length l.cells ≡ l.state.size)
     × (loan l.journal ≡ loan l.initial.journal)
-    × (whole (elements l.journal) (room l.journal) (perform l.cells (run μ (l.budget - l.-made) (free l.journal) l.state l.registers))
+    × (whole (elements l.journal) (room l.journal) (perform l.cells (run μ (l.budget - l._made) (free l.journal) l.state l.registers))
     ≡ whole (elements l.initial.journal) (room l.initial.journal) (perform l.initial.cells (run μ l.budget (free l.initial.journal) l.initial.state l.initial.registers)))
