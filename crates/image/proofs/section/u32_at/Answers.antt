@@ -5,5 +5,5 @@ use Rattle.image.proofs.section.u32_at.Goals as goal
 pub returns : goal.returns
 returns c = record {
   value = c.from_le_bytes.ensures ∙ sym (field_four c.args.place c.args.image.now c.requires);
-  bytes = bytes_from c.args.image.now (λ i. omega (arith, (c.type-inv.image i).fits));
+  bytes = bytes_from c.args.image.now (λ i. omega (arith, (c.type_inv.image i).fits));
 }

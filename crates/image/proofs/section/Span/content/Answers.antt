@@ -8,7 +8,7 @@ use Rattle.image.proofs.section.Span.content.Goals as goal
 pub returns-in_default : goal.returns-in_default
 returns-in_default c =
     let image = c.args.image.now in
-    let bytes = bytes_from image (λ i. omega (arith, (c.type-inv.image i).fits)) in
+    let bytes = bytes_from image (λ i. omega (arith, (c.type_inv.image i).fits)) in
     record {
       refused = note_fine c.args.size (marked image c.args.self) (omega arith);
       says = record {
