@@ -1,6 +1,5 @@
 -- Every run obeys its law.
-use Rattle.std.proofs.Common.{◌≡◌, ℕ, zero, suc, ◌+◌, ◌-◌, ◌<◌, ◌≤◌, List, [], ◌∷◌, ◌++◌, length, set, sym, refl, ap, ◌∙◌, subst, append-nil, suc-add, zero-add, arith}
-use mathlib.Core.Path.{fun_ext}
+use Rattle.std.proofs.Common.{◌≡◌, ℕ, zero, suc, ◌+◌, ◌-◌, List, [], ◌∷◌, ◌++◌, length, sym, refl, ap, ◌∙◌, subst, append-nil, suc-add, zero-add, arith}
 use native.Mathlib.Nat.{sub-zero, suc-sub-suc}
 use Rattle.machine.specs.declared.cell.Cell.{Cell}
 use Rattle.machine.specs.declared.records.Record.{Record}
@@ -9,10 +8,9 @@ use Rattle.machine.specs.declared.state.End.TheVariants.{Stopped, Spent, Full}
 use Rattle.machine.specs.declared.state.Next.{Next}
 use Rattle.machine.specs.declared.state.Next.TheVariants.{Running, Ended}
 use Rattle.machine.specs.declared.state.State.{State}
-use Rattle.machine.specs.Cells.{tag_in, word_in}
-use Rattle.machine.specs.Program.{Program, done, tag_at, word_at, overwrite, bind, answer, after}
-use Rattle.machine.specs.Run.{RunOutcome, ended, preceded, continued, turn, run}
-use Rattle.machine.specs.RunLaw.{Makes, Steps, machine_in, EndsAfter, joined, resumed, resume, RunLaw}
+use Rattle.machine.specs.Program.{Program, done, bind, answer, after}
+use Rattle.machine.specs.Run.{RunOutcome, preceded, continued, turn, run}
+use Rattle.machine.specs.RunLaw.{Steps, machine_in, EndsAfter, joined, resumed, resume, RunLaw}
 use Rattle.machine.specs.Step.{Meaning, Outcome, step}
 use Rattle.machine.proofs.Programs.{Performed, perform, perform_bind, bind_done, bind_bind, bind_same}
 use Rattle.machine.proofs.StepLaws.{law_of_step}

@@ -1,5 +1,5 @@
 -- Runs, a step at a time.
-use Rattle.std.proofs.Common.{◌≡◌, ℕ, zero, suc, ◌+◌, ◌-◌, ◌<◌, List, [], ◌∷◌, ◌++◌, length, drop, sym, refl, ap, ◌∙◌, subst, append_assoc, append-nil, arith}
+use Rattle.std.proofs.Common.{◌≡◌, ℕ, suc, ◌+◌, ◌-◌, ◌<◌, List, [], ◌∷◌, ◌++◌, length, drop, sym, ap, ◌∙◌, subst, append_assoc, append-nil, arith}
 use mathlib.Core.Path.{fun_ext}
 use Rattle.std.proofs.lemmas.List.{drop-drop, length-append, length-drop}
 use Rattle.rulebook.specs.declared.question.Question.{Question}
@@ -12,7 +12,7 @@ use Rattle.machine.specs.declared.state.Next.{Next}
 use Rattle.machine.specs.declared.state.Next.TheVariants.{Running, Ended}
 use Rattle.machine.specs.declared.state.State.{State}
 use Rattle.machine.specs.declared.stopped.Stopped.{Stopped as Halted}
-use Rattle.machine.specs.Program.{Program, done, bind, answer, after}
+use Rattle.machine.specs.Program.{Program, done, answer, after}
 use Rattle.machine.specs.Run.{RunOutcome, ended, preceded, continued, turn, run, Turned, Waits}
 use Rattle.machine.specs.RunCall.{Runs}
 use Rattle.machine.specs.Step.{Meaning, Outcome, step}

@@ -5,7 +5,6 @@ use Rattle.rulebook.specs.declared.answer.Answer.TheVariants.{Allowed, Denied}
 use Rattle.rulebook.specs.declared.question.Question.{Question}
 use Rattle.rulebook.specs.Group.{number_of}
 use Rattle.instruction.specs.declared.instruction.Instruction.{Instruction}
-use Rattle.instruction.specs.declared.instruction.Instruction.TheVariants.{Halt, Const, Move, Compute, Load, Store, Jump, Branch, Call, Ret, Out}
 use Rattle.instruction.specs.Decode.{decoded}
 use Rattle.instruction.specs.Instruction.{group_of}
 use Rattle.machine.specs.declared.cell.Cell.{Cell}
@@ -18,14 +17,13 @@ use Rattle.machine.specs.declared.state.Live.{Live}
 use Rattle.machine.specs.declared.state.Next.{Next}
 use Rattle.machine.specs.declared.state.Next.TheVariants.{Running, Ended}
 use Rattle.machine.specs.declared.state.State.{State}
-use Rattle.machine.specs.declared.step.Asked.{Asked}
 use Rattle.machine.specs.declared.step.Fetched.{Fetched}
 use Rattle.machine.specs.Cause.{cause_number}
 use Rattle.machine.specs.Cells.{blank, cell_in, tag_in, word_in}
 use Rattle.machine.specs.Effect.{access_of, address_in, target_of, written}
 use Rattle.machine.specs.Program.{Program, answer, after}
 use Rattle.machine.specs.declared.state.Stepped.{Stepped}
-use Rattle.machine.specs.Step.{Meaning, Outcome, Performs, stop, cell_told, done_entry, recorded, next_by, state_after, cause_of, performed, ruled, judged, asks, within, reached, obeyed, read, looked_at, fetched, fetch_question, inside, step}
+use Rattle.machine.specs.Step.{Meaning, Outcome, Performs, stop, cell_told, done_entry, recorded, next_by, state_after, cause_of, performed, ruled, judged, asks, within, reached, read, looked_at, fetched, fetch_question, inside, step}
 use Rattle.machine.specs.StepLaw.{WhereDone, WhereStopped, StepLaw, allowed_tag, register_told, target_in}
 
 -- what an instruction that went through is told by

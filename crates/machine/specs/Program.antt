@@ -1,6 +1,6 @@
 -- Programs of memory commands.  What touches memory is defined as one, so that the same definition says what is
 -- answered, what is left, and which tags and words are taken for it, in which order.
-use Rattle.std.specs.Prelude.{◌≡◌, ℕ, List, slice_set}
+use Rattle.std.specs.Prelude.{ℕ, List, slice_set}
 use Rattle.machine.specs.declared.cell.Cell.{Cell}
 use Rattle.machine.specs.Cells.{tag_in, word_in}
 
