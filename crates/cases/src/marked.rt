@@ -1,5 +1,5 @@
 ghost use Rattle.std.specs.Prelude.{◌≡◌};
-ghost use Rattle.std.specs.List.{AllByRecursion as All};
+ghost use Rattle.std.specs.List.{AllByRecursion};
 ghost use Rattle.cases.specs.Marked.{asks as asked, marked, Holds};
 ghost use Rattle.rulebook.specs.declared.answer.NarrowAnswer.TheVariants.{Allowed, Denied};
 
@@ -53,7 +53,7 @@ fn computed(op: Operation, x: u32, y: u32, res: u32) -> Case
 /// The cases by which a reader can tell that the rules and the arithmetic are the ones that were meant.
 pub fn marked_cases() -> [Case; 11]
     ensures table { result ≡ marked }
-    ensures hold { All Holds marked }
+    ensures hold { AllByRecursion Holds marked }
 {
     [
         allowed(asks(Group::Fetch, 0, 16, 0, 0), 0, 0),

@@ -1,6 +1,6 @@
 -- Bodies and what they say.
 use Rattle.std.proofs.Common.{◌≡◌, ℕ, zero, suc, ◌+◌, ◌-◌, ◌*◌, ◌/◌, ◌%◌, ◌^◌, ◌<◌, ◌≤◌, List, ◌∷◌, ◌++◌, length, take, drop, sym, refl, ap, ◌∙◌, add-zero, mul-suc, arith}
-use Rattle.std.specs.List.{flat_map, AllByRecursion as All}
+use Rattle.std.specs.List.{flat_map, AllByRecursion}
 use Rattle.std.proofs.ByRecursion.{All-drop, All-take}
 use Rattle.std.proofs.lemmas.List.{append-nil, drop_all, drop-drop, length-drop, length-take-le, nil_from_length, take-take}
 use Rattle.image.specs.declared.section.Span.{Span}
@@ -57,7 +57,7 @@ words_joined (suc n) bs long bytes =
     let l : length bs ≡ 4 * n + 4 = long ∙ mul-suc 4 n in
     rw (words_joined n (drop 4 bs) (simp length-drop (omega arith)) (All-drop _ 4 bs bytes)) (field_split 4 bs (omega arith) bytes)
 
-pub words_small : (n : ℕ) (bs : List ℕ) → 4 * n ≤ length bs → Bytes bs → All (λ value. value < 2 ^ 32) (words_in n bs)
+pub words_small : (n : ℕ) (bs : List ℕ) → 4 * n ≤ length bs → Bytes bs → AllByRecursion (λ value. value < 2 ^ 32) (words_in n bs)
 unfolding words_in
 words_small zero bs long bytes = tt
 words_small (suc n) bs long bytes =

@@ -1,6 +1,6 @@
 -- What was loaded is what the bytes say.
 use Rattle.std.proofs.Common.{◌≡◌, ℕ, ◌+◌, ◌-◌, ◌^◌, ◌<◌, ◌≤◌, true, ◌⊎◌, List, [], ◌∷◌, ◌++◌, length, take, replicate, Some, None, Option, sym, refl, ap, ◌∙◌, subst, ⊎_elim, arith}
-use Rattle.std.specs.List.{flat_map, AllByRecursion as All}
+use Rattle.std.specs.List.{flat_map, AllByRecursion}
 use Rattle.std.proofs.lemmas.List.{append_assoc, append-nil, length-append, take_all}
 use Rattle.machine.specs.declared.cell.Cell.{Cell}
 use Rattle.machine.specs.Calls.{in_limits, start_state}
@@ -47,7 +47,7 @@ clash fault e = let z : ◌≡◌ {A = ℕ} 0 1 = cc in omega arith
 
 module _ (size : ℕ) (small : size < 2 ^ 16) (image : List ℕ) where
   -- two readings of an image: one goes further than the other
-  readings : (h k : Header) (ps qs : List Part) (v w : List ℕ) → HeaderFits size h → HeaderFits size k → All (Fits size) ps → All (Fits size) qs
+  readings : (h k : Header) (ps qs : List Part) (v w : List ℕ) → HeaderFits size h → HeaderFits size k → AllByRecursion (Fits size) ps → AllByRecursion (Fits size) qs
       → image ≡ image_of h ps ++ v → image ≡ image_of k qs ++ w → (h ≡ k) × (Further size ps v qs w ⊎ Further size qs w ps v)
   readings h k ps qs v w hs ks f g d e =
       let same = header_same size small h k (flat_map part_framed ps ++ v) (flat_map part_framed qs ++ w) hs ks
@@ -88,7 +88,7 @@ module _ (size : ℕ) (small : size < 2 ^ 16) (image : List ℕ) where
       → AtPart size (free - length (image_names ps)) (length (image_of h ps)) rest fault → (rest ≡ w) × (qs ≡ ps)
   no_further h ps qs rest w free fault x room at = go x.more x.all x.left x.fits
     where
-      go : (more : List Part) → qs ≡ ps ++ more → rest ≡ flat_map part_framed more ++ w → All (Fits size) more → (rest ≡ w) × (qs ≡ ps)
+      go : (more : List Part) → qs ≡ ps ++ more → rest ≡ flat_map part_framed more ++ w → AllByRecursion (Fits size) more → (rest ≡ w) × (qs ≡ ps)
       go [] all left fits = (left, all ∙ append-nil ps)
       go (q ∷ more) all left fits =
           absurd (read_on h ps q more free rest (flat_map part_framed more ++ w) fault fits.0 (left ∙ append_assoc (part_framed q) (flat_map part_framed more) w)

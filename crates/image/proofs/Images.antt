@@ -1,6 +1,6 @@
 -- Whole images: a header, and the parts behind it.
 use Rattle.std.proofs.Common.{◌≡◌, ℕ, ◌+◌, ◌-◌, List, [], ◌++◌, length, Some, sym, ap, ◌∙◌, arith}
-use Rattle.std.specs.List.{flat_map, AllByRecursion as All}
+use Rattle.std.specs.List.{flat_map, AllByRecursion}
 use Rattle.std.proofs.lemmas.List.{append_assoc, append-nil, length-append, take_all}
 use Rattle.machine.specs.declared.cell.Cell.{Cell}
 use Rattle.image.specs.declared.fault.LoadFault.{LoadFault}
@@ -48,7 +48,7 @@ module _ (size : ℕ) (image : List ℕ) (start : Reader) (over : start ≡ reco
     split : (parts : List Part) (rest : List ℕ) → window reader image ≡ flat_map part_framed parts ++ rest → image ≡ image_of header parts ++ rest
     split parts rest e = behind ∙ ap (λ w. framed (header_section header) ++ w) e ∙ sym (append_assoc (framed (header_section header)) (flat_map part_framed parts) rest)
 
-    is_image : (parts : List Part) → All (Fits size) parts → window reader image ≡ flat_map part_framed parts ++ [] → IsImage size image header parts
+    is_image : (parts : List Part) → AllByRecursion (Fits size) parts → window reader image ≡ flat_map part_framed parts ++ [] → IsImage size image header parts
     is_image parts fits e = record { bytes = split parts [] e ∙ append-nil (image_of header parts); heads = read.fits; fits = fits }
 
     pub accepted : (free : ℕ) → AllJudged size image reader free → Accepts size free image header

@@ -1,7 +1,7 @@
 -- Records of name lists, and the names in them.
 use Rattle.std.proofs.Common.{◌≡◌, ℕ, suc, ◌+◌, ◌-◌, ◌<◌, ◌≤◌, Bool, true, false, cond, ◌&&◌, eqb, leb, List, [], ◌∷◌, ◌++◌, length, take, drop, sym, refl, ap, ◌∙◌, add-zero, add_assoc, arith, le-ltb, eqb-true}
 use borrow.Author.Tests.{eqb-false}
-use Rattle.std.specs.List.{AllByRecursion as All}
+use Rattle.std.specs.List.{AllByRecursion}
 use Rattle.std.proofs.ByRecursion.{All-drop, All-push, All-take}
 use Rattle.std.proofs.lemmas.List.{append_assoc, append-nil, drop-drop, flat_map_more, length-append, length-drop, length_push, take_all, take-append-le}
 use Rattle.std.proofs.lemmas.Bool.Decides.{nat_tests}
@@ -110,7 +110,7 @@ offer_more before room names name = go (eqb (length (drop (length names) room)) 
 -- what is known while a list is read
 pub record Progress (size : ℕ) (image : List ℕ) (start reader : Reader) (elements_before room_before elements_now room_now : List Name) (met : ℕ) : Type 0 where
   pub labels : List Label
-  pub fits : All (LabelFits size) labels
+  pub fits : AllByRecursion (LabelFits size) labels
   pub split : window start image ≡ labels_framed labels ++ window reader image
   pub number : met ≡ length labels
   pub elements : elements_now ≡ elements_before ++ take (length room_before) (names_from start.place labels)

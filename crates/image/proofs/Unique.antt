@@ -2,7 +2,7 @@
 use Rattle.std.proofs.Common.{◌≡◌, ℕ, ◌+◌, ◌-◌, ◌*◌, ◌/◌, ◌^◌, ◌<◌, ◌≤◌, true, false, cond, not, ◌||◌, eqb, ◌⊎◌, List, [], ◌∷◌, ◌++◌, length, drop, Some, None, Option, sym, refl, ap, ◌∙◌, inl, inr, ⊎_elim, arith, le-ltb}
 use borrow.Author.Tests.{both_ways}
 use Rattle.std.specs.Option.{option_map}
-use Rattle.std.specs.List.{flat_map, AllByRecursion as All}
+use Rattle.std.specs.List.{flat_map, AllByRecursion}
 use Rattle.std.proofs.ByRecursion.{All-append}
 use Rattle.std.proofs.lemmas.List.{append_assoc, append-nil, drop_at, drop-drop, length-append}
 use Rattle.std.proofs.lemmas.Bool.Decides.{nat_tests}
@@ -45,7 +45,7 @@ bytes_joined : (values : List ℕ) → Bytes (flat_map (bytes_of 4) values)
 bytes_joined [] = tt
 bytes_joined (value ∷ values) = All-append _ (bytes_of 4 value) (flat_map (bytes_of 4) values) (bytes_bytes_of 4 value) (bytes_joined values)
 
-words_back : (values : List ℕ) → All (λ value. value < 2 ^ 32) values → words_in (length values) (flat_map (bytes_of 4) values) ≡ values
+words_back : (values : List ℕ) → AllByRecursion (λ value. value < 2 ^ 32) values → words_in (length values) (flat_map (bytes_of 4) values) ≡ values
 unfolding words_in
 words_back [] h = refl
 words_back (value ∷ values) h =
@@ -107,7 +107,7 @@ abbrev plain_part : Section → Part
 plain_part s = cond (eqb s.kind 2) (words (field 2 0 s.body) (field 4 2 s.body) (words_in ((length s.body - 6) / 4) (drop 6 s.body)))
     (cond (eqb s.kind 3) (tags (field 2 0 s.body) (field 2 2 s.body) (field 4 4 s.body)) (note s.kind s.body))
 
-words_again : (a t : ℕ) (values : List ℕ) → a < 2 ^ 16 → t < 2 ^ 32 → All (λ value. value < 2 ^ 32) values → plain_part (part_section (words a t values)) ≡ words a t values
+words_again : (a t : ℕ) (values : List ℕ) → a < 2 ^ 16 → t < 2 ^ 32 → AllByRecursion (λ value. value < 2 ^ 32) values → plain_part (part_section (words a t values)) ≡ words a t values
 words_again a t values a< t< small = rw (two_first a t values a<, two_second a t values t<, two_count a t values, two_rest a t values, words_back values small)
 
 tags_again : (a n t : ℕ) → a < 2 ^ 16 → n < 2 ^ 16 → t < 2 ^ 32 → plain_part (part_section (tags a n t)) ≡ tags a n t
@@ -121,7 +121,7 @@ pub record Further (size : ℕ) (ps : List Part) (v : List ℕ) (qs : List Part)
   pub more : List Part
   pub all : qs ≡ ps ++ more
   pub left : v ≡ flat_map part_framed more ++ w
-  pub fits : All (Fits size) more
+  pub fits : AllByRecursion (Fits size) more
 
 after : {size : ℕ} (p q : Part) (ps : List Part) (v : List ℕ) (qs : List Part) (w : List ℕ) → p ≡ q → Further size ps v qs w → Further size (p ∷ ps) v (q ∷ qs) w
 after p q ps v qs w here x = let all = x.all in record { more = x.more; all = cc (here, all); left = x.left; fits = x.fits }
@@ -160,7 +160,7 @@ module _ (size : ℕ) (small : size < 2 ^ 16) where
       ∙ ap (λ s. not (is_name size s)) (first_framed (label_section label) w p) ∙ ap not (is_name_label label fits) in
       both_ways (no_name size bytes) e none
 
-  labels_same : (ls ms : List Label) (v w : List ℕ) → All (LabelFits size) ls → All (LabelFits size) ms → no_name size v ≡ true → no_name size w ≡ true
+  labels_same : (ls ms : List Label) (v w : List ℕ) → AllByRecursion (LabelFits size) ls → AllByRecursion (LabelFits size) ms → no_name size v ≡ true → no_name size w ≡ true
       → labels_framed ls ++ v ≡ labels_framed ms ++ w → (ls ≡ ms) × (v ≡ w)
   labels_same [] [] v w f g n o e = (refl, e)
   labels_same [] (m ∷ ms) v w f g n o e = absurd (named m (labels_framed ms ++ w) g.0 (rw (e ∙ append_assoc (framed (label_section m)) (labels_framed ms) w) at n))
@@ -184,7 +184,7 @@ module _ (size : ℕ) (small : size < 2 ^ 16) where
     bytes = All-append _ (labels_framed labels) rest (labels_bytes labels fits.0) fits.2;
   }
     where
-      labels_bytes : (ls : List Label) → All (LabelFits size) ls → Bytes (labels_framed ls)
+      labels_bytes : (ls : List Label) → AllByRecursion (LabelFits size) ls → Bytes (labels_framed ls)
       labels_bytes [] f = tt
       labels_bytes (l ∷ ls) f = All-append _ (framed (label_section l)) (labels_framed ls) (framed_bytes (label_section l) (proper_label l f.0)) (labels_bytes ls f.1)
   proper_part (note kind body) fits = record { kind = fits.1; size = fits.4; bytes = fits.3 }
@@ -209,7 +209,7 @@ module _ (size : ℕ) (small : size < 2 ^ 16) where
   part_same (note kind body) q f g e = plain_same (note kind body) f.2 (note_again kind body f.0) q g e
 
   -- bytes that begin with some parts, and with others: the ones are the first of the others
-  pub parts_same : (ps qs : List Part) (v w : List ℕ) → All (Fits size) ps → All (Fits size) qs → flat_map part_framed ps ++ v ≡ flat_map part_framed qs ++ w
+  pub parts_same : (ps qs : List Part) (v w : List ℕ) → AllByRecursion (Fits size) ps → AllByRecursion (Fits size) qs → flat_map part_framed ps ++ v ≡ flat_map part_framed qs ++ w
       → Further size ps v qs w ⊎ Further size qs w ps v
   parts_same [] qs v w f g e = inl (record { more = qs; all = refl; left = e; fits = g })
   parts_same (p ∷ ps) [] v w f g e = inr (record { more = p ∷ ps; all = refl; left = sym e; fits = f })

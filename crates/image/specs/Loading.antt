@@ -1,6 +1,6 @@
 -- What an image loads, and why one is refused.
 use Rattle.std.specs.Prelude.{◌≡◌, ℕ, ◌+◌, ◌-◌, ◌<◌, ◌≤◌, Bool, true, false, cond, not, ◌&&◌, List, [], ◌∷◌, ◌++◌, length, drop, replicate, Some, ◌==◌}
-use Rattle.std.specs.List.{AllByRecursion as All}
+use Rattle.std.specs.List.{AllByRecursion}
 use Rattle.refusal.specs.declared.refusal.Refusal.TheVariants.{NamesFull, Sizes}
 use Rattle.machine.specs.declared.cell.Cell.{Cell}
 use Rattle.machine.specs.Calls.{in_limits, start_state}
@@ -45,7 +45,7 @@ broken_in (part ∷ parts) = cond (breaks_off part) 1 0 + broken_in parts
 pub record IsImage (size : ℕ) (image : List ℕ) (header : Header) (parts : List Part) : Type 0 where
   pub bytes : image ≡ image_of header parts
   pub heads : HeaderFits size header
-  pub fits : All (Fits size) parts
+  pub fits : AllByRecursion (Fits size) parts
 
 -- the section that bytes from a place on begin with is refused, where so many names can still be taken
 pub data AtPart (size free place : ℕ) (rest : List ℕ) (fault : LoadFault) : Type 0 where
@@ -56,7 +56,7 @@ pub data AtPart (size free place : ℕ) (rest : List ℕ) (fault : LoadFault) : 
 -- an image is refused at its first section, or at the first behind a header and parts that are not
 pub data Refuses (size free : ℕ) (image : List ℕ) (fault : LoadFault) : Type 0 where
   at_header : section_fault (header_refusal size) 0 image ≡ Some fault → Refuses size free image fault
-  at_part : (header : Header) (parts : List Part) (rest : List ℕ) → HeaderFits size header → All (Fits size) parts
+  at_part : (header : Header) (parts : List Part) (rest : List ℕ) → HeaderFits size header → AllByRecursion (Fits size) parts
       → image ≡ image_of header parts ++ rest → 0 < length rest → length (image_names parts) ≤ free
       → AtPart size (free - length (image_names parts)) (length (image_of header parts)) rest fault → Refuses size free image fault
 

@@ -1,6 +1,6 @@
 -- The names of name lists, and what reading them leaves.
 use Rattle.std.specs.Prelude.{◌≡◌, ℕ, ◌+◌, Bool, true, List, [], ◌∷◌, ◌++◌, length, take, drop, ◌==◌}
-use Rattle.std.specs.List.{AllByRecursion as All}
+use Rattle.std.specs.List.{AllByRecursion}
 use Rattle.image.specs.declared.name.Name.{Name}
 use Rattle.image.specs.declared.section.Reader.{Reader}
 use Rattle.image.specs.Part.{Label, LabelFits, label_section, labels_framed, no_name}
@@ -36,7 +36,7 @@ pub record Lists (size place : ℕ) (bytes : List ℕ) (elements_before room_bef
   pub labels : List Label
   pub rest : List ℕ
   pub split : bytes ≡ labels_framed labels ++ rest
-  pub fits : All (LabelFits size) labels
+  pub fits : AllByRecursion (LabelFits size) labels
   pub ends : no_name size rest ≡ true
   pub all : whole ≡ (length rest == 0)
   pub number : met ≡ length labels

@@ -1,6 +1,6 @@
 -- What an image is made of: a header, and parts of four kinds behind it.
 use Rattle.std.specs.Prelude.{◌≡◌, ℕ, ◌+◌, ◌^◌, ◌<◌, ◌≤◌, Bool, true, not, ◌&&◌, ◌||◌, List, ◌++◌, length, ◌==◌, ◌≢◌, nat_le, nat_lt}
-use Rattle.std.specs.List.{flat_map, AllByRecursion as All}
+use Rattle.std.specs.List.{flat_map, AllByRecursion}
 use Rattle.image.specs.declared.section.part.Header.{Header}
 use Rattle.image.specs.Bytes.{Bytes, bytes_of, field}
 use Rattle.image.specs.Section.{Section, cut_short, first_section, framed}
@@ -67,8 +67,8 @@ pub record HeaderFits (size : ℕ) (header : Header) : Type 0 where
 -- the numbers of a part fit the bytes that they are written in, and what it sets is there in a memory of so many cells
 abbrev pub Fits : ℕ → Part → Type 0
 Fits size (words address tag values) =
-    (address + length values ≤ size) × (1 ≤ length values) × (address < 2 ^ 16) × (tag < 2 ^ 32) × All (λ value. value < 2 ^ 32) values
+    (address + length values ≤ size) × (1 ≤ length values) × (address < 2 ^ 16) × (tag < 2 ^ 32) × AllByRecursion (λ value. value < 2 ^ 32) values
 Fits size (tags address count tag) = (address + count ≤ size) × (address < 2 ^ 16) × (count < 2 ^ 16) × (tag < 2 ^ 32)
 Fits size (names labels rest) =
-    All (LabelFits size) labels × (no_name size rest ≡ true) × Bytes rest × (length (labels_framed labels ++ rest) < 2 ^ 32)
+    AllByRecursion (LabelFits size) labels × (no_name size rest ≡ true) × Bytes rest × (length (labels_framed labels ++ rest) < 2 ^ 32)
 Fits size (note kind body) = (32768 ≤ kind) × (kind < 2 ^ 16) × (kind ≢ 32769) × Bytes body × (length body < 2 ^ 32)

@@ -1,6 +1,6 @@
 -- What reading, judging and obeying one section or more leaves.
 use Rattle.std.specs.Prelude.{◌≡◌, ℕ, ◌+◌, ◌-◌, ◌<◌, ◌≤◌, Bool, List, [], ◌++◌, length, take, drop, Some}
-use Rattle.std.specs.List.{flat_map, AllByRecursion as All}
+use Rattle.std.specs.List.{flat_map, AllByRecursion}
 use Rattle.machine.specs.declared.cell.Cell.{Cell}
 use Rattle.image.specs.declared.fault.LoadFault.{LoadFault}
 use Rattle.image.specs.declared.name.Name.{Name}
@@ -49,7 +49,7 @@ pub record PartObeyed (size : ℕ) (image : List ℕ) (before after : Reader) (c
 
 -- bytes are the encoding of parts that fit, up to a rest
 pub record PartsBefore (size : ℕ) (bytes : List ℕ) (parts : List Part) (rest : List ℕ) : Type 0 where
-  pub fits : All (Fits size) parts
+  pub fits : AllByRecursion (Fits size) parts
   pub split : bytes ≡ flat_map part_framed parts ++ rest
 
 -- all sections up to the end were judged, or one of them is refused
@@ -96,6 +96,6 @@ pub record ImageObeyed (size : ℕ) (image : List ℕ) (cells_before cells_after
 
 pub data Stops (size : ℕ) (image : List ℕ) (fault : LoadFault) : Type 0 where
   at_first : section_fault (header_refusal size) 0 image ≡ Some fault → Stops size image fault
-  at_later : (header : Header) (parts : List Part) (rest : List ℕ) → HeaderFits size header → All (Fits size) parts
+  at_later : (header : Header) (parts : List Part) (rest : List ℕ) → HeaderFits size header → AllByRecursion (Fits size) parts
       → image ≡ image_of header parts ++ rest → 0 < length rest → section_fault (part_refusal size) (length (image_of header parts)) rest ≡ Some fault
       → Stops size image fault

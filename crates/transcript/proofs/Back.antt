@@ -1,7 +1,7 @@
 -- What is written reads back.
 use Rattle.std.proofs.Common.{◌≡◌, ℕ, ◌+◌, ◌-◌, ◌*◌, ◌/◌, ◌%◌, ◌^◌, ◌<◌, ◌≤◌, true, ltb, List, [], ◌∷◌, ◌++◌, length, get_or, Some, None, decimal, Decides, fold, Option, sym, refl, ap, ◌∙◌, append_assoc, append-nil, arith}
 use Rattle.std.specs.Option.{option_map}
-use Rattle.std.specs.List.{AllByRecursion as All}
+use Rattle.std.specs.List.{AllByRecursion}
 use Rattle.std.proofs.lemmas.Fmt.{decimal_by_steps}
 use Rattle.std.proofs.lemmas.Bool.{and_parts, ltb-true}
 use Rattle.std.proofs.lemmas.Bool.Decides.{nat_tests, Decides-ltb}
@@ -48,7 +48,7 @@ reads e (n ∷ m ∷ ns) h =
 pub read_written : (ns : List ℕ) → length ns ≡ 6 → fit ns ≡ true → line_numbers (written ns) ≡ Some ns
 read_written ns long fits = let all_read = reads [] ns fits in grind (arith, nat_tests)
 
-fit_decides : (ns : List ℕ) → Decides (fit ns) (All (λ n. n < 2 ^ 32) ns)
+fit_decides : (ns : List ℕ) → Decides (fit ns) (AllByRecursion (λ n. n < 2 ^ 32) ns)
 fit_decides ns = Decides-by_and (λ n. ltb n (2 ^ 32)) (λ n. n < 2 ^ 32) fit (λ n. Decides-ltb n (2 ^ 32)) refl (λ _ _. refl) ns
 
 pub law : (line : List ℕ) (r : Option (List ℕ)) → r ≡ line_numbers line → ReadsBack line r

@@ -3,7 +3,7 @@
 -- back as exactly those six.
 use Rattle.std.specs.Prelude.{◌≡◌, ℕ, ◌+◌, ◌-◌, ◌*◌, ◌^◌, ◌<◌, Bool, true, cond, ◌&&◌, ◌||◌, List, [], ◌∷◌, ◌++◌, length, Some, None, decimal, fold, Option, ◌==◌, nat_lt}
 use Rattle.std.specs.Option.{unwrap_or, option_map, option_to_list}
-use Rattle.std.specs.List.{AllByRecursion as All}
+use Rattle.std.specs.List.{AllByRecursion}
 use Rattle.std.specs.Char.{is_ascii_digit}
 
 -- a space, a tab or a carriage return
@@ -62,4 +62,4 @@ written (n ∷ m ∷ ns) = decimal n ++ 32 ∷ written (m ∷ ns)
 
 -- the law, of a line and of r, what was read of it
 abbrev pub ReadsBack : List ℕ → Option (List ℕ) → Type 0
-ReadsBack line r = (ns : List ℕ) → length ns ≡ 6 → All (λ n. n < 2 ^ 32) ns → line ≡ written ns → r ≡ Some ns
+ReadsBack line r = (ns : List ℕ) → length ns ≡ 6 → AllByRecursion (λ n. n < 2 ^ 32) ns → line ≡ written ns → r ≡ Some ns
