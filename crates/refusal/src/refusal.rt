@@ -40,7 +40,7 @@ impl Refusal {
     }
 }
 
-// Written out, since a derived comparison of many variants promises nothing.
+// Written out, to promise that `==` says whether two refusals are one and the same.
 impl PartialEq for Refusal {
     ghost eq = { on refusal_number ◌==◌ };
 

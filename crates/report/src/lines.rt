@@ -54,7 +54,7 @@ fn closed(heap: Global, line: String) -> Result<String, AllocError>
     format!(in heap; "{line}\n")
 }
 
-// What `last` promises, said by `nth`.
+// What `last` promises, said by `slice_get`.
 fn last(records: &[Record]) -> Option<&Record>
     ensures { option_map (λ x. x.now) result ≡ slice_get records.now (length records.now - 1) }
 {

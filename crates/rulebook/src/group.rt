@@ -62,7 +62,7 @@ impl Group {
     }
 }
 
-// Written out, since a derived comparison of so many variants promises nothing.
+// Written out, to promise that `==` says whether two groups are one and the same.
 impl PartialEq for Group {
     ghost eq = { on number_of ◌==◌ };
 

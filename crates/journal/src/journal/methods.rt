@@ -87,7 +87,7 @@ impl<'a, T: Drop> Journal<'a, T> {
     }
 }
 
-// What `get` promises, said by `nth`.
+// What `get` promises, said by `slice_get`.
 fn at<T>(held: &[T], place: usize) -> Option<&T>
     ensures { behind result ≡ slice_get held.now place }
 {
