@@ -39,14 +39,14 @@ fn denied(question: Question, violation: u8) -> Case
     }
 }
 
-fn computed(op: Operation, x: u32, y: u32, res: u32) -> Case
-    ensures { result ≡ Case.Computed op x y res }
+fn computed(op: Operation, x: u32, y: u32, value: u32) -> Case
+    ensures { result ≡ Case.Computed op x y value }
 {
     Case::Computed {
         op,
         x,
         y,
-        result: res,
+        result: value,
     }
 }
 
