@@ -72,12 +72,12 @@ sized cells registers = in_limits (length cells) && length registers == 16
 
 -- what a header and parts load: cells and registers are cleared, then each part does its work, in order
 pub record LoadedAs (header : Header) (parts : List Part) (size : ℕ) (elements_before room_before : List Name)
-    (loaded : Loaded) (cells_after registers_after : List Cell) (elements_after Room-after : List Name) : Type 0 where
+    (loaded : Loaded) (cells_after registers_after : List Cell) (elements_after room_after : List Name) : Type 0 where
   pub live : loaded.live ≡ record { state = start_state header.start header.tag size }
   pub cells : cells_after ≡ all_stored parts (replicate size blank)
   pub registers : registers_after ≡ replicate 16 blank
   pub elements : elements_after ≡ elements_before ++ image_names parts
-  pub room : Room-after ≡ drop (length (image_names parts)) room_before
+  pub room : room_after ≡ drop (length (image_names parts)) room_before
   pub broken : loaded.broken ≡ broken_in parts
 
 -- the parts that set cells
@@ -90,7 +90,7 @@ without_notes (note kind body ∷ parts) = without_notes parts
 
 -- an image was loaded
 pub record Loads (image : List ℕ) (size : ℕ) (elements_before room_before : List Name)
-    (loaded : Loaded) (cells_after registers_after : List Cell) (elements_after Room-after : List Name) : Type 0 where
+    (loaded : Loaded) (cells_after registers_after : List Cell) (elements_after room_after : List Name) : Type 0 where
   pub limits : in_limits size ≡ true
   -- the bytes are the encoding of a header and parts that fit
   pub header : Header
@@ -98,7 +98,7 @@ pub record Loads (image : List ℕ) (size : ℕ) (elements_before room_before : 
   pub is : IsImage size image header parts
   -- and these are what was loaded, whatever header and parts one may find that have these bytes
   pub exact : (h : Header) (ps : List Part) → IsImage size image h ps
-      → LoadedAs h ps size elements_before room_before loaded cells_after registers_after elements_after Room-after
+      → LoadedAs h ps size elements_before room_before loaded cells_after registers_after elements_after room_after
   -- no fault was passed over
   pub taken : (fault : LoadFault) → Refuses size (length room_before) image fault → ⊥
   -- parts that differ from these only in notes leave the same cells
@@ -121,9 +121,9 @@ pub data WhyRefused (image : List ℕ) (cells registers : List Cell) (free : ℕ
 
 -- and everything is as it was
 pub record Refused (image : List ℕ) (cells_before registers_before : List Cell) (elements_before room_before : List Name)
-    (fault : LoadFault) (cells_after registers_after : List Cell) (elements_after Room-after : List Name) : Type 0 where
+    (fault : LoadFault) (cells_after registers_after : List Cell) (elements_after room_after : List Name) : Type 0 where
   pub why : WhyRefused image cells_before registers_before (length room_before) fault
   pub cells : cells_after ≡ cells_before
   pub registers : registers_after ≡ registers_before
   pub elements : elements_after ≡ elements_before
-  pub room : Room-after ≡ room_before
+  pub room : room_after ≡ room_before

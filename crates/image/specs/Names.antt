@@ -32,7 +32,7 @@ pub record Unnamed (size : ℕ) (image : List ℕ) (before after : Reader) : Typ
 
 -- the bytes of a list, from a place on, were read: the names that they begin with are offered to a journal in order, and
 -- it has taken as many as it had places for; whole says that nothing stands behind them
-pub record Lists (size place : ℕ) (bytes : List ℕ) (elements_before room_before elements_after Room-after : List Name) (met : ℕ) (whole : Bool) : Type 0 where
+pub record Lists (size place : ℕ) (bytes : List ℕ) (elements_before room_before elements_after room_after : List Name) (met : ℕ) (whole : Bool) : Type 0 where
   pub labels : List Label
   pub rest : List ℕ
   pub split : bytes ≡ labels_framed labels ++ rest
@@ -41,4 +41,4 @@ pub record Lists (size place : ℕ) (bytes : List ℕ) (elements_before room_bef
   pub all : whole ≡ (length rest == 0)
   pub number : met ≡ length labels
   pub elements : elements_after ≡ elements_before ++ take (length room_before) (names_from place labels)
-  pub room : Room-after ≡ drop (length labels) room_before
+  pub room : room_after ≡ drop (length labels) room_before

@@ -38,13 +38,13 @@ pub record PartJudged (size : ℕ) (image : List ℕ) (before after : Reader) (f
   pub room : free ≡ left + length (names_in before.place part)
 
 pub record PartObeyed (size : ℕ) (image : List ℕ) (before after : Reader) (cells_before cells_after : List Cell)
-    (elements_before room_before elements_after Room-after : List Name) (broken : Bool) : Type 0 where
+    (elements_before room_before elements_after room_after : List Name) (broken : Bool) : Type 0 where
   pub part : Part
   pub fits : Fits size part
   pub passed : Passed image before after (part_framed part)
   pub cells : cells_after ≡ stored part cells_before
   pub elements : elements_after ≡ elements_before ++ take (length room_before) (names_in before.place part)
-  pub room : Room-after ≡ drop (length (names_in before.place part)) room_before
+  pub room : room_after ≡ drop (length (names_in before.place part)) room_before
   pub breaks : broken ≡ breaks_off part
 
 -- bytes are the encoding of parts that fit, up to a rest
@@ -68,12 +68,12 @@ pub record OneRefused (size : ℕ) (image : List ℕ) (start : Reader) (free : �
 
 -- all were obeyed, or one of them would be refused
 pub record AllObeyed (size : ℕ) (image : List ℕ) (start : Reader) (cells_before cells_after : List Cell)
-    (elements_before room_before elements_after Room-after : List Name) (broken : ℕ) : Type 0 where
+    (elements_before room_before elements_after room_after : List Name) (broken : ℕ) : Type 0 where
   pub parts : List Part
   pub all : PartsBefore size (window start image) parts []
   pub cells : cells_after ≡ all_stored parts cells_before
   pub elements : elements_after ≡ elements_before ++ take (length room_before) (all_names start.place parts)
-  pub room : Room-after ≡ drop (length (all_names start.place parts)) room_before
+  pub room : room_after ≡ drop (length (all_names start.place parts)) room_before
   pub breaks : broken ≡ broken_in parts
 
 pub record OneStops (size : ℕ) (image : List ℕ) (start : Reader) (fault : LoadFault) : Type 0 where
@@ -85,13 +85,13 @@ pub record OneStops (size : ℕ) (image : List ℕ) (start : Reader) (fault : Lo
 
 -- the image was obeyed, or could not be
 pub record ImageObeyed (size : ℕ) (image : List ℕ) (cells_before cells_after : List Cell)
-    (elements_before room_before elements_after Room-after : List Name) (broken : ℕ) : Type 0 where
+    (elements_before room_before elements_after room_after : List Name) (broken : ℕ) : Type 0 where
   pub header : Header
   pub parts : List Part
   pub is : IsImage size image header parts
   pub cells : cells_after ≡ all_stored parts cells_before
   pub elements : elements_after ≡ elements_before ++ take (length room_before) (image_names parts)
-  pub room : Room-after ≡ drop (length (image_names parts)) room_before
+  pub room : room_after ≡ drop (length (image_names parts)) room_before
   pub breaks : broken ≡ broken_in parts
 
 pub data Stops (size : ℕ) (image : List ℕ) (fault : LoadFault) : Type 0 where
