@@ -11,6 +11,7 @@ fn run(rt: &HostRuntime) -> anyhow::Result<()> {
     let mut rules = Cache::over(Alone {
         rules: DepthIsolation,
     });
+    // Counted by hand: `enumerate` asks for a proof that the input has fewer than 2^64 lines.
     let mut number: u64 = 0;
     let mut answered: u64 = 0;
     for line in BufReader::new(heap, rt.stdin())?.split(heap, b'\n') {

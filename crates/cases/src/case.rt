@@ -1,13 +1,13 @@
 use instruction::Operation;
-use rulebook::{NarrowAnswer, Question};
+use rulebook::{Answer, Question};
 
 /// A worked case.
 #[derive(Clone, Copy)]
 pub enum Case {
-    /// a question to Depth Isolation and its answer
+    /// a question to Depth Isolation alone and its answer
     Asked {
         question: Question,
-        answer: NarrowAnswer,
+        answer: Answer,
     },
     /// an operation on two words and its result
     Computed {

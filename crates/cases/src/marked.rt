@@ -1,11 +1,11 @@
 ghost use Rattle.std.specs.Prelude.{◌≡◌};
 ghost use Rattle.std.specs.List.{AllByRecursion};
-ghost use Rattle.cases.specs.Marked.{asks as asked, marked, Holds};
-ghost use Rattle.rulebook.specs.declared.answer.NarrowAnswer.TheVariants.{Allowed, Denied};
+ghost use Rattle.cases.specs.Marked.{asks as asked, denied as refuses, marked, Holds};
+ghost use Rattle.rulebook.specs.Answer.{allowed as permits};
 
 use super::case::Case;
 use instruction::Operation;
-use rulebook::{Group, NarrowAnswer, Question};
+use rulebook::{Denial, Group, Half, Question, Tags};
 
 // A question in which b has no part.
 fn asks(group: Group, pc: u32, ci: u32, a: u32, m: u32) -> Question
@@ -22,20 +22,24 @@ fn asks(group: Group, pc: u32, ci: u32, a: u32, m: u32) -> Question
 }
 
 fn allowed(question: Question, pc: u32, r: u32) -> Case
-    ensures { result ≡ Case.Asked question (Allowed pc r) }
+    ensures { result ≡ Case.Asked question (permits pc r) }
 {
     Case::Asked {
         question,
-        answer: NarrowAnswer::Allowed { pc, r },
+        answer: Ok(Tags { pc, r }),
     }
 }
 
+// The violation by its number, as an answer holds it.
 fn denied(question: Question, violation: u8) -> Case
-    ensures { result ≡ Case.Asked question (Denied violation) }
+    ensures { result ≡ Case.Asked question (refuses violation) }
 {
     Case::Asked {
         question,
-        answer: NarrowAnswer::Denied { violation },
+        answer: Err(Denial {
+            half: Half::Alone,
+            violation,
+        }),
     }
 }
 

@@ -3,6 +3,7 @@ ghost use Rattle.cases.specs.Routine.{cell as cell_of, doubling, Doubles};
 
 use machine::Cell;
 
+// A cell in one line: the routine has ten.
 fn cell(word: u32, tag: u32) -> Cell
     ensures { result ≡ cell_of word tag }
 {
@@ -14,7 +15,7 @@ pub fn doubling_routine() -> [Cell; 16]
     ensures cells { result ≡ doubling }
     ensures doubles { Doubles }
 {
-    followed([
+    [
         cell(0x0120_0007, 16),
         cell(0x0d10_0002, 16),
         cell(0x0f02_0000, 16),
@@ -31,13 +32,5 @@ pub fn doubling_routine() -> [Cell; 16]
         Cell::BLANK,
         Cell::BLANK,
         Cell::BLANK,
-    ])
-}
-
-// The cells as they are, with what the definitions make of the routine.
-fn followed(cells: [Cell; 16]) -> [Cell; 16]
-    ensures same { result ≡ cells }
-    ensures doubles { Doubles }
-{
-    cells
+    ]
 }

@@ -1,40 +1,17 @@
 -- When a section is refused, and why.
-use Rattle.std.proofs.Common.{◌≡◌, ℕ, ◌+◌, ◌-◌, ◌/◌, ◌%◌, ◌≤◌, true, false, ◌&&◌, eqb, ltb, leb, length, Some, None, arith}
+use Rattle.std.proofs.Common.{◌≡◌, ℕ, ◌+◌, ◌-◌, ◌/◌, ◌%◌, ◌≤◌, true, false, ◌&&◌, eqb, ltb, leb, length, None, arith}
 use Rattle.std.proofs.lemmas.Bool.Decides.{nat_tests}
-use Rattle.refusal.specs.declared.refusal.Refusal.TheVariants.{SectionOrder, BodyLength, HeaderValues, PastCells}
 use Rattle.image.specs.Bytes.{field}
 use Rattle.image.specs.Judgement.{header_refusal, part_refusal}
 use Rattle.image.specs.Section.{Section}
 
 module _ (size : ℕ) (s : Section) where
-  pub header_other : (s.kind ≡ 1 → ⊥) → header_refusal size s ≡ Some SectionOrder
-  header_other other = grind (arith, nat_tests)
-
-  pub header_misfit : s.kind ≡ 1 → (length s.body ≡ 8 → ⊥) → header_refusal size s ≡ Some BodyLength
-  header_misfit kind other = grind (arith, nat_tests)
-
-  pub header_differs : s.kind ≡ 1 → length s.body ≡ 8 → (eqb (field 2 0 s.body) size && ltb (field 2 2 s.body) size) ≡ false → header_refusal size s ≡ Some HeaderValues
-  header_differs kind long other = grind (arith, nat_tests)
-
   pub header_fine : s.kind ≡ 1 → length s.body ≡ 8 → (eqb (field 2 0 s.body) size && ltb (field 2 2 s.body) size) ≡ true → header_refusal size s ≡ None
   header_fine kind long same = grind (arith, nat_tests)
-
-  pub words_misfit : s.kind ≡ 2 → (leb 10 (length s.body) && eqb (length s.body % 4) 2) ≡ false → part_refusal size s ≡ Some BodyLength
-  words_misfit kind other = grind (arith, nat_tests)
-
-  pub words_past : s.kind ≡ 2 → (leb 10 (length s.body) && eqb (length s.body % 4) 2) ≡ true
-      → ltb size (field 2 0 s.body + (length s.body - 6) / 4) ≡ true → part_refusal size s ≡ Some PastCells
-  words_past kind long past = grind (arith, nat_tests)
 
   pub words_fine : s.kind ≡ 2 → (leb 10 (length s.body) && eqb (length s.body % 4) 2) ≡ true
       → ltb size (field 2 0 s.body + (length s.body - 6) / 4) ≡ false → part_refusal size s ≡ None
   words_fine kind long fits = grind (arith, nat_tests)
-
-  pub tags_misfit : s.kind ≡ 3 → (length s.body ≡ 8 → ⊥) → part_refusal size s ≡ Some BodyLength
-  tags_misfit kind other = grind (arith, nat_tests)
-
-  pub tags_past : s.kind ≡ 3 → length s.body ≡ 8 → ltb size (field 2 0 s.body + field 2 2 s.body) ≡ true → part_refusal size s ≡ Some PastCells
-  tags_past kind long past = grind (arith, nat_tests)
 
   pub tags_fine : s.kind ≡ 3 → length s.body ≡ 8 → ltb size (field 2 0 s.body + field 2 2 s.body) ≡ false → part_refusal size s ≡ None
   tags_fine kind long fits = grind (arith, nat_tests)

@@ -4,8 +4,10 @@ pub mod Images
 pub mod Judgements
 pub mod NameLists
 pub mod Numbers
+pub mod Outcomes
 pub mod Parts
 pub mod Sections
+pub mod Stored
 pub mod Unique
 pub mod Walks
 pub mod Windows

@@ -1,5 +1,5 @@
 -- Records of name lists, and the names in them.
-use Rattle.std.proofs.Common.{◌≡◌, ℕ, suc, ◌+◌, ◌-◌, ◌<◌, ◌≤◌, Bool, true, false, cond, ◌&&◌, eqb, leb, List, [], ◌∷◌, ◌++◌, length, take, drop, sym, refl, ap, ◌∙◌, add-zero, add_assoc, arith, le-ltb, eqb-true}
+use Rattle.std.proofs.Common.{◌≡◌, ℕ, suc, ◌+◌, ◌-◌, ◌<◌, ◌≤◌, Bool, true, false, cond, ◌&&◌, eqb, leb, List, [], ◌∷◌, ◌++◌, length, take, drop, sym, refl, ap, ◌∙◌, add-zero, add_assoc, arith, eqb-true}
 use borrow.Author.Tests.{eqb-false}
 use Rattle.std.specs.List.{AllByRecursion}
 use Rattle.std.proofs.ByRecursion.{All-drop, All-push, All-take}
@@ -9,11 +9,11 @@ use Rattle.image.specs.declared.name.Name.{Name}
 use Rattle.image.specs.declared.section.Reader.{Reader}
 use Rattle.image.specs.declared.section.Span.{Span}
 use Rattle.image.specs.Bytes.{Bytes, field}
-use Rattle.image.specs.Names.{Lists, Named, Unnamed, name_of, names_from}
-use Rattle.image.specs.Part.{Label, LabelFits, is_name, label_section, labels_framed, no_name}
+use Rattle.image.specs.Names.{Named, name_of, names_from}
+use Rattle.image.specs.Part.{Label, LabelFits, label_section, labels_framed}
 use Rattle.image.specs.Reading.{Opened, Within}
-use Rattle.image.specs.Section.{Section, behind_first, first_section, framed, marked, window}
-use Rattle.image.proofs.Contents.{body_bytes, body_front, body_length}
+use Rattle.image.specs.Section.{Section, behind_first, framed, marked, window}
+use Rattle.image.proofs.Contents.{body_bytes, body_length}
 use Rattle.image.proofs.Numbers.{field_split, length_bytes_of}
 use Rattle.image.proofs.Sections.{framed_first}
 
@@ -35,31 +35,16 @@ module _ (size : ℕ) (image : List ℕ) (before after : Reader) (span : Span) (
       ∙ ap (λ s. framed s ++ behind_first (window before image)) (sym opened.marks)
       ∙ ap (λ rest. framed (marked image span) ++ rest) (sym opened.behind)
 
-  unnamed : is_name size (marked image span) ≡ false → Unnamed size image before after
-  unnamed other =
-      let e : is_name size (first_section (window before image)) ≡ false = ap (is_name size) (sym opened.marks) ∙ other in
-      record { none = rw (opened.whole, e); end = ap (λ reader. reader.end) opened.next }
-
-  pub unnamed_held : (eqb span.kind 1 && (leb 3 span.length && leb span.length 34)) ≡ false → Unnamed size image before after
-  unnamed_held other = unnamed (rw (body_length image span opened.lies.fits, other))
-
-  pub unnamed_there : (address : ℕ) → address ≡ field 2 (span.place + 6) image → (eqb span.kind 1 && (leb 3 span.length && leb span.length 34)) ≡ true → size ≤ address
-      → Unnamed size image before after
-  unnamed_there address is held past =
-      let long : 2 ≤ span.length = grind (arith, nat_tests) in
-      let here : field 2 0 (marked image span).body ≡ address = body_front image span opened.lies.fits 2 long ∙ sym is in
-      unnamed (rw (body_length image span opened.lies.fits, held, here) (le-ltb address size past))
-
-  pub named : Within before image → (address : ℕ) → address ≡ field 2 (span.place + 6) image → (eqb span.kind 1 && (leb 3 span.length && leb span.length 34)) ≡ true → address < size
+  pub named : Within before image → (address : ℕ) → address ≡ field 2 0 (marked image span).body → (eqb span.kind 1 && (leb 3 span.length && leb span.length 34)) ≡ true → address < size
       → Named size image before after (record { address = address; place = span.place + 6 + 2; length = span.length - 2 })
   named within address is held there =
       let kind : span.kind ≡ 1 = grind (arith, nat_tests) in
       let low : 3 ≤ span.length = grind (arith, nat_tests) in
       let high : span.length ≤ 34 = grind (arith, nat_tests) in
       let lies = opened.lies.fits in
-      let here : field 2 0 (marked image span).body ≡ address = body_front image span lies 2 (omega arith) ∙ sym is in
+      let here : field 2 0 (marked image span).body ≡ address = sym is in
       let long = body_length image span lies in
-      let bytes = body_bytes image span lies opened.bytes in
+      let bytes = body_bytes image span opened.bytes in
       let text : length (drop 2 (marked image span).body) ≡ span.length - 2 = rw (length-drop, long) in
       let at = opened.place in
       let further : span.place + 6 + span.length ≡ before.place + 8 + length (drop 2 (marked image span).body) = omega arith in
@@ -166,20 +151,3 @@ module _ (size : ℕ) (image : List ℕ) (start : Reader) (elements_before room_
         within = named.within;
         few = omega arith;
       }
-
-  -- the list ends here
-  pub progress_ends : (reader : Reader) (elements_now room_now : List Name) (met : ℕ) (whole : Bool)
-      → Progress size image start reader elements_before room_before elements_now room_now met → no_name size (window reader image) ≡ true
-      → whole ≡ eqb (length (window reader image)) 0
-      → Lists size start.place (window start image) elements_before room_before elements_now room_now met whole
-  progress_ends reader elements_now room_now met whole so_far none all = record {
-    labels = so_far.labels;
-    rest = window reader image;
-    split = so_far.split;
-    fits = so_far.fits;
-    ends = none;
-    all = all;
-    number = so_far.number;
-    elements = so_far.elements;
-    room = so_far.room;
-  }

@@ -10,7 +10,7 @@ use Rattle.image.specs.declared.section.Reader.{Reader}
 use Rattle.image.specs.declared.section.Span.{Span}
 use Rattle.image.specs.declared.section.part.Content.{Content}
 use Rattle.image.specs.declared.section.part.Content.TheVariants as content
-use Rattle.image.specs.Content.{Says, Stands, content_stored, words_at}
+use Rattle.image.specs.Content.{Says, Stands, all_words, content_stored}
 use Rattle.image.specs.Loading.{AtPart, crowded, breaks_off, names_in}
 use Rattle.image.specs.Names.{Lists, names_from}
 use Rattle.image.specs.Part.{Part, words, tags, names, note, labels_framed, part_section}
@@ -31,11 +31,11 @@ pub record Plain (size : ℕ) (image : List ℕ) (span : Span) (content : Conten
   pub stands : Stands size image span part
   pub nameless : (place : ℕ) → names_in place part ≡ []
   pub unbroken : breaks_off part ≡ false
-  pub stores : (cells : List Cell) → content_stored image content cells ≡ stored part cells
+  pub stores : (cells : List Cell) → content_stored content cells ≡ stored part cells
 
 pub plain : (size : ℕ) (image : List ℕ) (span : Span) (said : Content) → Says size image span said → (said ≡ content.Names → ⊥) → Plain size image span said
-plain size image span (content.Words address tag first count) says other =
-    record { part = words address tag (words_at image first count); stands = says.0; nameless = λ _. refl; unbroken = refl; stores = λ _. refl }
+plain size image span (content.Words address tag bytes) says other =
+    record { part = words address tag (all_words bytes.now); stands = says.0; nameless = λ _. refl; unbroken = refl; stores = λ _. refl }
 plain size image span (content.Tags address count tag) says other =
     record { part = tags address count tag; stands = says; nameless = λ _. refl; unbroken = refl; stores = λ _. refl }
 plain size image span content.Names says other = absurd (other refl)
@@ -50,8 +50,8 @@ turned false b e = ap not e
 pub list_kind : (size : ℕ) (image : List ℕ) (span : Span) (said : Content) → said ≡ content.Names → Says size image span said → span.kind ≡ 32769
 list_kind size image span said is says = subst (Says size image span) is says
 
-pub list_cells : (image : List ℕ) (said : Content) (cells : List Cell) → said ≡ content.Names → content_stored image said cells ≡ cells
-list_cells image said cells is = ap (λ x. content_stored image x cells) is
+pub list_cells : (said : Content) (cells : List Cell) → said ≡ content.Names → content_stored said cells ≡ cells
+list_cells said cells is = ap (λ x. content_stored x cells) is
 
 module _ (size : ℕ) (image : List ℕ) (before after : Reader) (span : Span) (opened : Opened image before after span) (within : Within before image) where
   -- a section was read, so its bytes are passed
@@ -73,7 +73,7 @@ module _ (size : ℕ) (image : List ℕ) (before after : Reader) (span : Span) (
 
     pub list_stands : Stands size image span list_part
     list_stands =
-        let bytes = body_bytes image span opened.lies.fits opened.bytes in
+        let bytes = body_bytes image span opened.bytes in
         let long = body_length image span opened.lies.fits in
         let behind : drop (length (labels_framed lists.labels)) (marked image span).body ≡ lists.rest =
         ap (drop (length (labels_framed lists.labels))) lists.split ∙ drop_at (labels_framed lists.labels) lists.rest (length (labels_framed lists.labels)) refl in
@@ -117,7 +117,7 @@ module _ (size : ℕ) (image : List ℕ) (before after : Reader) (span : Span) (
         let none = ap length (p.nameless before.place) in
         record { part = p.part; fits = p.stands.fits; passed = passed (part_section p.part) p.stands.bytes; room = omega arith }
 
-    pub plain_obeyed : (before_cells after_cells : List Cell) (held room : List Name) → after_cells ≡ content_stored image said before_cells
+    pub plain_obeyed : (before_cells after_cells : List Cell) (held room : List Name) → after_cells ≡ content_stored said before_cells
         → PartObeyed size image before after before_cells after_cells held room held room false
     plain_obeyed before_cells after_cells held room stores =
         let p = plain size image span said says other in

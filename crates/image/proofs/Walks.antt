@@ -11,7 +11,7 @@ use Rattle.image.specs.declared.section.Reader.{Reader}
 use Rattle.image.specs.Judgement.{part_refusal, section_fault}
 use Rattle.image.specs.Loading.{AtPart, all_names, breaks_off, broken_in, names_in}
 use Rattle.image.specs.Part.{Part, Fits, part_framed, part_section}
-use Rattle.image.specs.Passing.{AllJudged, AllObeyed, OneRefused, OneStops, PartJudged, PartObeyed, PartsBefore, Passed}
+use Rattle.image.specs.Passing.{OneRefused, OneStops, PartJudged, PartObeyed, PartsBefore, Passed}
 use Rattle.image.specs.Reading.{Within}
 use Rattle.image.specs.Section.{window}
 use Rattle.image.specs.Stored.{all_stored, stored}
@@ -79,9 +79,6 @@ module _ (size : ℕ) (image : List ℕ) (start : Reader) where
         within = passed.within;
       }
 
-  window_none : (reader : Reader) → Within reader image → reader.end ≤ reader.place → window reader image ≡ []
-  window_none reader within le = let none : reader.end - reader.place ≡ 0 = omega arith in rw none
-
   window_some : (reader : Reader) → Within reader image → reader.place < reader.end → 0 < length (window reader image)
   window_some reader within lt = rw (length_window reader image within) (omega arith)
 
@@ -118,13 +115,6 @@ module _ (size : ℕ) (image : List ℕ) (start : Reader) (free : ℕ) where
         walked = walked_more size image start reader next parts judged.part so_far.walked judged.fits judged.passed;
         room = omega arith;
       }
-
-  pub judging_all : (reader : Reader) (left : ℕ) → Judging size image start reader free left → reader.end ≤ reader.place → AllJudged size image start free
-  judging_all reader left so_far done = record {
-    parts = so_far.parts;
-    all = rw (window_none size image start reader so_far.walked.within done) at so_far.walked.before;
-    room = let had = so_far.room in omega arith;
-  }
 
   pub judging_refused : (reader : Reader) (left : ℕ) (fault : LoadFault) → Judging size image start reader free left → reader.place < reader.end
       → AtPart size left reader.place (window reader image) fault → OneRefused size image start free fault
@@ -193,18 +183,6 @@ module _ (size : ℕ) (image : List ℕ) (start : Reader) (cells_before : List C
       at_most : (b : Bool) → broken + 1 ≤ next.place → broken + cond b 1 0 ≤ next.place
       at_most true h = h
       at_most false h = omega arith
-
-  pub obeying_all : (reader : Reader) (cells_now : List Cell) (elements_now room_now : List Name) (broken : ℕ)
-      → Obeying size image start reader cells_before cells_now elements_before room_before elements_now room_now broken → reader.end ≤ reader.place
-      → AllObeyed size image start cells_before cells_now elements_before room_before elements_now room_now broken
-  obeying_all reader cells_now elements_now room_now broken so_far done = record {
-    parts = so_far.parts;
-    all = rw (window_none size image start reader so_far.walked.within done) at so_far.walked.before;
-    cells = so_far.cells;
-    elements = so_far.elements;
-    room = so_far.room;
-    breaks = so_far.breaks;
-  }
 
   pub obeying_stops : (reader : Reader) (cells_now : List Cell) (elements_now room_now : List Name) (broken : ℕ) (fault : LoadFault)
       → Obeying size image start reader cells_before cells_now elements_before room_before elements_now room_now broken → reader.place < reader.end

@@ -3,6 +3,7 @@ pub mod Cells
 pub mod Content
 pub mod Fault
 pub mod Judgement
+pub mod Kind
 pub mod Loading
 pub mod Lookup
 pub mod Names

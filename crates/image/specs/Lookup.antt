@@ -1,11 +1,11 @@
 -- Looking up a name.
-use Rattle.std.specs.Prelude.{ℕ, ◌+◌, cond, List, [], ◌∷◌, length, take, drop, Some, None, Option, ◌==◌, nat_le}
+use Rattle.std.specs.Prelude.{ℕ, ◌+◌, cond, List, length, take, drop, Some, None, Option, ◌==◌, nat_le}
+use Rattle.std.specs.List.{find}
 use Rattle.image.specs.declared.name.Name.{Name}
 
 -- the first name at an address
-unfoldable pub first_at : ℕ → List Name → Option Name
-first_at address [] = None
-first_at address (name ∷ names) = cond (name.address == address) (Some name) (first_at address names)
+abbrev pub first_at : ℕ → List Name → Option Name
+first_at address names = find (λ name. name.address == address) names
 
 -- the part of an image that a name marks, if it is there
 abbrev pub text_in : List ℕ → Name → Option (List ℕ)

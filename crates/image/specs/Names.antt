@@ -1,8 +1,9 @@
 -- The names of name lists, and what reading them leaves.
-use Rattle.std.specs.Prelude.{◌≡◌, ℕ, ◌+◌, Bool, true, List, [], ◌∷◌, ◌++◌, length, take, drop, ◌==◌}
+use Rattle.std.specs.Prelude.{◌≡◌, ℕ, ◌+◌, Bool, true, List, [], ◌∷◌, ◌++◌, length, take, drop, Ok, Err, Result, ◌==◌}
 use Rattle.std.specs.List.{AllByRecursion}
 use Rattle.image.specs.declared.name.Name.{Name}
 use Rattle.image.specs.declared.section.Reader.{Reader}
+use Rattle.image.specs.declared.section.part.list.BrokenOff.{BrokenOff}
 use Rattle.image.specs.Part.{Label, LabelFits, label_section, labels_framed, no_name}
 use Rattle.image.specs.Reading.{Within}
 use Rattle.image.specs.Section.{framed, window}
@@ -15,6 +16,11 @@ name_of place label = record { address = label.address; place = place + 8; lengt
 unfoldable pub names_from : ℕ → List Label → List Name
 names_from place [] = []
 names_from place (label ∷ labels) = name_of place label ∷ names_from (place + 8 + length label.text) labels
+
+-- how many names a list was found to hold, whether or not it breaks off
+abbrev pub names_met : Result ℕ BrokenOff → ℕ
+names_met (Ok met) = met
+names_met (Err off) = off.names
 
 -- a reader has read a record with a name
 pub record Named (size : ℕ) (image : List ℕ) (before after : Reader) (name : Name) : Type 0 where

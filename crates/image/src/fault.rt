@@ -1,11 +1,13 @@
-ghost use Rattle.std.specs.Prelude.{◌≡◌};
+ghost use Rattle.std.specs.Prelude.{◌≡◌, Some};
 ghost use Rattle.image.specs.declared.fault.LoadFault.TheVariants.{Read};
-ghost use Rattle.image.specs.Fault.{fault_place, fault_refusal};
+ghost use Rattle.image.specs.Fault.{fault_place, fault_refusal, fault_text, read_text};
 
 use refusal::Refusal;
+use std::error::Error;
+use std::fmt;
 
 /// Where a reader met the end of its bytes.
-#[derive(Clone, Copy, Debug)]
+#[derive(Clone, Copy, Debug, PartialEq, Eq)]
 pub struct ReadFault {
     /// where the section begins that it was reading
     pub section: usize,
@@ -16,7 +18,7 @@ pub struct ReadFault {
 }
 
 /// Why an image is not loaded.
-#[derive(Clone, Copy, Debug)]
+#[derive(Clone, Copy, Debug, PartialEq, Eq)]
 pub enum LoadFault {
     /// a section is cut short
     Read(ReadFault),
@@ -52,3 +54,31 @@ impl From<ReadFault> for LoadFault {
         LoadFault::Read(cut)
     }
 }
+
+impl fmt::Display for ReadFault {
+    ghost output = { λ fault. Some (read_text fault) };
+
+    fn fmt<W: fmt::Write>(&self, f: &mut fmt::Formatter<W>) -> fmt::Result {
+        let section = self.section;
+        let wanted = self.wanted;
+        let place = self.place;
+        write!(
+            f,
+            "the section at {section} is cut short: {wanted} bytes from {place} on"
+        )
+    }
+}
+
+impl Error for ReadFault {}
+
+impl fmt::Display for LoadFault {
+    ghost output = { λ fault. Some (fault_text fault) };
+
+    fn fmt<W: fmt::Write>(&self, f: &mut fmt::Formatter<W>) -> fmt::Result {
+        let number = u8::from(self.refusal());
+        let place = self.place();
+        write!(f, "refused {number} {place}")
+    }
+}
+
+impl Error for LoadFault {}

@@ -1,5 +1,4 @@
-ghost use Rattle.std.specs.Prelude.{◌≡◌};
-ghost use Rattle.journal.specs.Journal.{behind};
+ghost use Rattle.std.specs.Prelude.{◌≡◌, option_copied};
 ghost use Rattle.image.specs.Lookup.{first_at, text_in, text_of};
 
 /// A name in an image: the address that it names, and where its bytes stand.
@@ -21,35 +20,22 @@ impl Name {
 
     /// The name's bytes; absent where they lie outside this image.
     pub fn text(self, image: &[u8]) -> Option<&[u8]>
-        ensures { behind result ≡ text_in image.now self }
+        ensures { option_copied result ≡ text_in image.now self }
     {
-        let start = self.place;
-        if start > image.len() || self.length > image.len() - start {
-            return None;
-        }
-        let end = start + self.length;
-        Some(&image[start..end])
+        image.get(self.place..)?.get(..self.length)
     }
 }
 
 /// The bytes of the first of these names at an address; absent where there is none, or where it lies outside this
 /// image.
 pub fn first_name<'i>(names: &[Name], image: &'i [u8], address: u16) -> Option<&'i [u8]>
-    ensures { behind result ≡ text_of image.now (first_at address names.now) }
+    ensures { option_copied result ≡ text_of image.now (first_at address names.now) }
 {
-    match find(names, address) {
-        Some(name) => name.text(image),
-        None => None,
-    }
+    find(names, address)?.text(image)
 }
 
 fn find(names: &[Name], address: u16) -> Option<Name>
     ensures { result ≡ first_at address names.now }
 {
-    for name in names {
-        if name.address == address {
-            return Some(*name);
-        }
-    }
-    None
+    names.iter().find(|name| name.address == address).copied()
 }

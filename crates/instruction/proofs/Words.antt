@@ -1,5 +1,5 @@
 -- Words and their fields.
-use Rattle.std.proofs.Common.{◌≡◌, ℕ, ◌/◌, ◌%◌, ◌^◌, ◌<◌, ltb, Some, None, Option, sym, refl, ap, ◌∙◌, arith}
+use Rattle.std.proofs.Common.{◌≡◌, ℕ, ◌/◌, ◌%◌, ◌^◌, ◌<◌, ltb, Some, None, Option, IfSome, sym, refl, ap, subst, ◌∙◌, arith}
 use Rattle.std.proofs.lemmas.Bool.{lt-ltb, cond-true}
 use Rattle.instruction.specs.declared.operation.Operation.{Operation}
 use Rattle.instruction.specs.declared.operation.Operation.TheVariants.{Add, Sub, And, Xor, Shl, Less}
@@ -7,7 +7,7 @@ use Rattle.instruction.specs.declared.instruction.Instruction.{Instruction}
 use Rattle.instruction.specs.declared.instruction.Instruction.TheVariants.{Halt, Const, Move, Compute, Load, Store, Jump, Branch, Call, Ret, Out}
 use Rattle.rulebook.specs.Group.{number_of}
 use Rattle.instruction.specs.Instruction.{encoded, operation_group, packed, low, Fits}
-use Rattle.instruction.specs.Decode.{decoded, of_fields, only}
+use Rattle.instruction.specs.Decode.{decoded, of_fields, only, Decodes}
 
 -- a word is made of its fields
 pub fields_of : (word : ℕ) → packed (word / 2 ^ 24) (word / 2 ^ 20 % 16) (word / 2 ^ 16 % 16) (word % 2 ^ 16) ≡ word
@@ -67,3 +67,14 @@ decodes (Out s) q = unpack 15 0 s 0 (omega arith) q (omega arith)
 pub reads_back : (word : ℕ) (answer : Option Instruction) → answer ≡ decoded word
     → (i : Instruction) → Fits i → encoded i ≡ word → answer ≡ Some i
 reads_back word answer a i f e = a ∙ ap decoded (sym e) ∙ decodes i f
+
+-- what the fields of a word say is lawful
+pub lawful_of : (word : ℕ) (answer : Option Instruction)
+    → answer ≡ of_fields (word / 2 ^ 24) (word / 2 ^ 20 % 16) (word / 2 ^ 16 % 16) (word % 2 ^ 16)
+    → IfSome answer (λ i. Fits i × (encoded i ≡ packed (word / 2 ^ 24) (word / 2 ^ 20 % 16) (word / 2 ^ 16 % 16) (word % 2 ^ 16)))
+    → Decodes word answer
+unfolding decoded
+lawful_of word answer a e = record {
+  encodes = subst (λ z. IfSome answer (λ i. Fits i × (encoded i ≡ z))) (fields_of word) e;
+  reads_back = reads_back word answer a;
+}

@@ -7,25 +7,18 @@ use crate::operation::Operation;
 
 impl Instruction {
     /// The instruction of a word, absent where the word is illegal.
+    #[tactic(auto, unfolding(crate::specs::Decode::decoded))]
     pub fn decode(word: u32) -> Option<Instruction>
         ensures decoded { result ≡ decoded word }
         ensures lawful { Decodes word result }
     {
-        unpacked(word)
+        of_fields(
+            word >> 24,
+            ((word >> 20) % 16) as u8,
+            ((word >> 16) % 16) as u8,
+            word % 65536,
+        )
     }
-}
-
-// What a word says, with the laws of the layout.
-fn unpacked(word: u32) -> Option<Instruction>
-    ensures decoded { result ≡ decoded word }
-    ensures lawful { Decodes word result }
-{
-    of_fields(
-        word >> 24,
-        ((word >> 20) % 16) as u8,
-        ((word >> 16) % 16) as u8,
-        word % 65536,
-    )
 }
 
 fn of_fields(op: u32, d: u8, s: u8, k: u32) -> Option<Instruction>
@@ -34,16 +27,24 @@ fn of_fields(op: u32, d: u8, s: u8, k: u32) -> Option<Instruction>
     ensures decoded { result ≡ of_fields op d s k }
     ensures encodes { IfSome result (λ i. Fits i × (encoded i ≡ packed op d s k)) }
 {
+    // in these ops k names the register t
+    let compute = |op| Some(Instruction::Compute {
+        op,
+        d,
+        s,
+        t: (k % 16) as u8,
+    });
+    // One line for each op, as in the table of ops: no `TryFrom` that would hide their numbers.
     match op {
         0 if d == 0 && s == 0 && k == 0 => Some(Instruction::Halt),
         1 if s == 0 => Some(Instruction::Const { d, k: extend(k) }),
         2 if k == 0 => Some(Instruction::Move { d, s }),
-        3 if k < 16 => Some(compute(Operation::Add, d, s, k)),
-        4 if k < 16 => Some(compute(Operation::Sub, d, s, k)),
-        5 if k < 16 => Some(compute(Operation::And, d, s, k)),
-        6 if k < 16 => Some(compute(Operation::Xor, d, s, k)),
-        7 if k < 16 => Some(compute(Operation::Shl, d, s, k)),
-        8 if k < 16 => Some(compute(Operation::Less, d, s, k)),
+        3 if k < 16 => compute(Operation::Add),
+        4 if k < 16 => compute(Operation::Sub),
+        5 if k < 16 => compute(Operation::And),
+        6 if k < 16 => compute(Operation::Xor),
+        7 if k < 16 => compute(Operation::Shl),
+        8 if k < 16 => compute(Operation::Less),
         9 => Some(Instruction::Load { d, s, k: extend(k) }),
         10 => Some(Instruction::Store { d, s, k: extend(k) }),
         11 if d == 0 && k == 0 => Some(Instruction::Jump { s }),
@@ -55,24 +56,11 @@ fn of_fields(op: u32, d: u8, s: u8, k: u32) -> Option<Instruction>
     }
 }
 
-// In these ops k names the register t.
-fn compute(op: Operation, d: u8, s: u8, k: u32) -> Instruction
-    requires { k < 16 }
-    ensures { result ≡ Instruction.Compute op d s k }
-{
-    Instruction::Compute {
-        op,
-        d,
-        s,
-        t: k as u8,
-    }
-}
-
 // 16 bits, their sign carried to 32.
 fn extend(k: u32) -> u32
     requires { k < 2 ^ 16 }
     ensures extended { result ≡ extended k }
     ensures low { result % 2 ^ 16 ≡ k }
 {
-    if k < 32768 { k } else { k + 0xffff_0000 }
+    i32::from((k as u16).cast_signed()).cast_unsigned()
 }

@@ -21,6 +21,7 @@ pub enum Instruction {
 }
 
 impl Instruction {
+    // No `From`: a group is one of an instruction's properties, and no other form of it.
     /// What a rulebook is asked about before the instruction is obeyed.
     pub fn group(self) -> Group
         ensures { result ≡ group_of self }
@@ -29,14 +30,7 @@ impl Instruction {
             Instruction::Halt => Group::Halt,
             Instruction::Const { .. } => Group::Const,
             Instruction::Move { .. } => Group::Move,
-            Instruction::Compute { op, .. } => match op {
-                Operation::Add => Group::Add,
-                Operation::Sub => Group::Sub,
-                Operation::And => Group::And,
-                Operation::Xor => Group::Xor,
-                Operation::Shl => Group::Shl,
-                Operation::Less => Group::Less,
-            },
+            Instruction::Compute { op, .. } => op.into(),
             Instruction::Load { .. } => Group::Load,
             Instruction::Store { .. } => Group::Store,
             Instruction::Jump { .. } => Group::Jump,

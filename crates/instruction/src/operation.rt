@@ -1,5 +1,8 @@
 ghost use Rattle.std.specs.Prelude.{◌≡◌};
+ghost use Rattle.instruction.specs.Instruction.{operation_group};
 ghost use Rattle.instruction.specs.Operation.{computed};
+
+use rulebook::Group;
 
 /// What an instruction of three registers computes.
 #[derive(Clone, Copy, Debug)]
@@ -25,6 +28,21 @@ impl Operation {
             Operation::Xor => x ^ y,
             Operation::Shl => x << (y % 32),
             Operation::Less => u32::from(x < y),
+        }
+    }
+}
+
+impl From<Operation> for Group {
+    ghost from_gives = { λ op r. r ≡ operation_group op };
+
+    fn from(op: Operation) -> Group {
+        match op {
+            Operation::Add => Group::Add,
+            Operation::Sub => Group::Sub,
+            Operation::And => Group::And,
+            Operation::Xor => Group::Xor,
+            Operation::Shl => Group::Shl,
+            Operation::Less => Group::Less,
         }
     }
 }

@@ -1,6 +1,6 @@
 -- What a journal holds, and what an append makes of it.
-use Rattle.std.specs.Prelude.{ℕ, Bool, cond, List, [], ◌∷◌, ◌++◌, length, take, drop, Some, None, Ok, Err, Option, Result, ◌==◌}
-use Rattle.std.specs.Borrow.{GName, Bor}
+use Rattle.std.specs.Prelude.{ℕ, Bool, cond, List, [], ◌∷◌, ◌++◌, length, take, drop, Ok, Err, Result, ◌==◌}
+use Rattle.std.specs.Borrow.{GName}
 use Rattle.refusal.specs.declared.refusal.Refusal.{Refusal}
 use Rattle.refusal.specs.declared.refusal.Refusal.TheVariants.{JournalFull}
 use Rattle.journal.specs.declared.journal.Journal.{Journal}
@@ -37,8 +37,3 @@ appended journal element = cond (full journal) (elements journal) (elements jour
 -- which slice was lent: at the journal's end that slice holds the elements and then the room
 abbrev pub loan : {T : Type 0} → Journal T → GName
 loan journal = journal.slots.ghost_name
-
--- what stands behind a reference, where there is one
-abbrev pub behind : {T : Type 0} → Option (Bor T) → Option T
-behind None = None
-behind (Some reference) = Some reference.now

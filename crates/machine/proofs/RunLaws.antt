@@ -147,11 +147,8 @@ unfolding StepsTo Ends
 law_of_run μ budget free state registers cells end cells' registers' e c r =
     let records : List Record = (answer cells (run μ budget free state registers)).records in
     record {
-      steps = subst (λ x. Steps μ records (Running (record { state = state })) cells registers (machine_in x) cells' registers') (sym e)
-          (subst (λ x. Steps μ records (Running (record { state = state })) cells registers (machine_in (answer cells (run μ budget free state registers)).end) x registers') (sym c)
-          (subst (λ x. Steps μ records (Running (record { state = state })) cells registers (machine_in (answer cells (run μ budget free state registers)).end) (after cells (run μ budget free state registers)) x) (sym r)
-          (steps_run μ budget free state registers cells)));
-      ends = subst (λ x. EndsAfter x budget free (length records)) (sym e) (ends_run μ budget free state registers cells);
+      steps = rw (e, c, r) (steps_run μ budget free state registers cells);
+      ends = rw e (ends_run μ budget free state registers cells);
       extends = λ more. extends_run μ budget more free state registers cells;
       cut = λ first second e. ap (λ n. run μ n free state registers) (sym e) ∙ cut_run μ first second free state registers;
     }

@@ -1,8 +1,9 @@
 -- Runs, a step at a time.
-use Rattle.std.proofs.Common.{◌≡◌, ℕ, suc, ◌+◌, ◌-◌, ◌<◌, List, [], ◌∷◌, ◌++◌, length, drop, sym, ap, ◌∙◌, subst, append_assoc, append-nil, arith}
+use Rattle.std.proofs.Common.{◌≡◌, ℕ, suc, ◌+◌, ◌-◌, ◌<◌, List, [], ◌∷◌, ◌++◌, length, drop, sym, refl, ap, ◌∙◌, subst, append_assoc, append-nil, arith}
 use mathlib.Core.Path.{fun_ext}
 use Rattle.std.proofs.lemmas.List.{drop-drop, length-append, length-drop}
-use Rattle.rulebook.specs.declared.question.Question.{Question}
+use Rattle.journal.specs.Journal.{elements, room, free}
+use Rattle.journal.specs.declared.journal.Journal.{Journal}
 use Rattle.machine.specs.declared.cell.Cell.{Cell}
 use Rattle.machine.specs.declared.records.Record.{Record}
 use Rattle.machine.specs.declared.state.End.{End}
@@ -11,14 +12,14 @@ use Rattle.machine.specs.declared.state.Live.{Live}
 use Rattle.machine.specs.declared.state.Next.{Next}
 use Rattle.machine.specs.declared.state.Next.TheVariants.{Running, Ended}
 use Rattle.machine.specs.declared.state.State.{State}
+use Rattle.machine.specs.declared.step.Machine.{Machine}
 use Rattle.machine.specs.declared.stopped.Stopped.{Stopped as Halted}
 use Rattle.machine.specs.Program.{Program, done, answer, after}
 use Rattle.machine.specs.Run.{RunOutcome, ended, preceded, continued, turn, run, Turned, Waits}
-use Rattle.machine.specs.RunCall.{Runs}
-use Rattle.machine.specs.Step.{Meaning, Outcome, step}
+use Rattle.machine.specs.Step.{Meaning, Outcome, Unaltered, step}
+use Rattle.machine.specs.Work.{RunsOn}
 use Rattle.machine.proofs.Programs.{Performed, perform, perform_bind}
 use Rattle.machine.proofs.RunLaws.{law_of_run}
-use Rattle.machine.proofs.StepLaws.{keeps_size}
 
 -- how a run begins
 
@@ -73,105 +74,114 @@ whole_first elements room entry p =
     let b : drop (length records) (drop 1 room) ≡ drop (suc (length records)) room = drop-drop (length records) 1 room ∙ ap (λ k. drop k room) n in
     cc
 
+-- what is left to run from this state, on what the machine holds, and what stands in the journal
+abbrev pub whole_from : {R : Type 0} → Meaning → ℕ → State → Machine R → Journal Record → Whole
+whole_from μ budget state machine journal =
+    whole (elements journal) (room journal) (perform machine.cells.now (run μ budget (free journal) state machine.registers.now))
+
 -- a turn of the loop, made under a meaning that is still the first one
-module _ (μ ν : Meaning) (same : (q : Question) → ν q ≡ μ q) (state : State) (registers cells : List Cell)
-    (budget budget' : ℕ) (fewer : budget ≡ suc budget') (elements room : List Record)
-    (next : Next) (cells' registers' : List Cell) (elements' room' : List Record)
-    (turned-ν : Turned (step ν state registers) cells elements room next cells' registers' elements' room') where
-  turned : Turned (step μ state registers) cells elements room next cells' registers' elements' room'
-  turned = subst (λ (m : Meaning). Turned (step m state registers) cells elements room next cells' registers' elements' room') (fun_ext same) turned-ν
+module _ {R : Type 0} (μ ν : Meaning) (same : Unaltered μ ν) (budget budget' : ℕ) (fewer : budget ≡ suc budget')
+    (before after : Machine R) (journal journal' : Journal Record) (next : Next)
+    (turned-ν : Turned (step ν before.state before.registers.now) before.cells.now (elements journal) (room journal)
+    next after.cells.now after.registers.now (elements journal') (room journal')) where
+  turned : Turned (step μ before.state before.registers.now) before.cells.now (elements journal) (room journal)
+      next after.cells.now after.registers.now (elements journal') (room journal')
+  turned = subst (λ (m : Meaning). Turned (step m before.state before.registers.now) before.cells.now (elements journal) (room journal)
+      next after.cells.now after.registers.now (elements journal') (room journal')) (fun_ext same) turned-ν
 
-  entry : Record
-  entry = (answer cells (step μ state registers)).stepped.entry
+  made : Outcome
+  made = answer before.cells.now (step μ before.state before.registers.now)
 
-  free : length room ≡ suc (length room')
-  free =
-      let some : 0 < length room = turned.free in
-      let n = ap length turned.room ∙ length-drop 1 room in
+  less_room : free journal ≡ suc (free journal')
+  less_room =
+      let some : 0 < free journal = turned.free in
+      let n = ap length turned.room ∙ length-drop 1 (room journal) in
       omega arith
 
-  continues : perform cells (run μ budget (length room) state registers) ≡ perform cells' (continued (run μ budget' (length room')) entry registers' next)
-  unfolding entry
+  rest : Next → Performed RunOutcome
+  rest n = perform after.cells.now (continued (run μ budget' (free journal')) made.stepped.entry after.registers.now n)
+
+  continues : perform before.cells.now (run μ budget (free journal) before.state before.registers.now) ≡ rest next
+  unfolding made rest
   continues =
-      let rest : State → List Cell → Program RunOutcome = run μ budget' (length room') in
-      let outcome : Outcome = answer cells (step μ state registers) in
-      ap (λ n. perform cells (run μ n (length room) state registers)) fewer
-      ∙ ap (λ n. perform cells (run μ (suc budget') n state registers)) free
-      ∙ run_turn μ budget' (length room') state registers cells
-      ∙ ap (λ x. perform x (continued rest entry outcome.registers outcome.stepped.next)) (sym turned.cells)
-      ∙ ap (λ x. perform cells' (continued rest entry x outcome.stepped.next)) (sym turned.registers)
-      ∙ ap (λ x. perform cells' (continued rest entry registers' x)) (sym turned.next)
+      let later : State → List Cell → Program RunOutcome = run μ budget' (free journal') in
+      ap (λ n. perform before.cells.now (run μ n (free journal) before.state before.registers.now)) fewer
+      ∙ ap (λ n. perform before.cells.now (run μ (suc budget') n before.state before.registers.now)) less_room
+      ∙ run_turn μ budget' (free journal') before.state before.registers.now before.cells.now
+      ∙ ap (λ x. perform x (continued later made.stepped.entry made.registers made.stepped.next)) (sym turned.cells)
+      ∙ ap (λ x. perform after.cells.now (continued later made.stepped.entry x made.stepped.next)) (sym turned.registers)
+      ∙ ap (λ x. perform after.cells.now (continued later made.stepped.entry after.registers.now x)) (sym turned.next)
 
-  appended : (p : Performed RunOutcome) → whole elements' room' p ≡ whole elements room (with_first entry p)
-  unfolding entry
-  appended p =
-      ap (λ x. whole x room' p) turned.elements
-      ∙ ap (λ x. whole (elements ++ entry ∷ []) x p) turned.room
-      ∙ whole_first elements room entry p
+  -- a run that goes on as this step goes on is still the whole
+  goes_on : (n : Next) (p : Performed RunOutcome) → next ≡ n → rest n ≡ with_first made.stepped.entry p →
+      whole (elements journal') (room journal') p ≡ whole_from μ budget before.state before journal
+  unfolding made
+  goes_on n p e so =
+      ap (λ x. whole x (room journal') p) turned.elements
+      ∙ ap (λ x. whole (elements journal ++ made.stepped.entry ∷ []) x p) turned.room
+      ∙ whole_first (elements journal) (room journal) made.stepped.entry p
+      ∙ ap (whole (elements journal) (room journal)) (sym so ∙ ap rest (sym e) ∙ sym continues)
 
-  -- the run goes on: what was run and what is left are still the whole
-  pub whole_on : (live : Live) → next ≡ Running live →
-      whole elements' room' (perform cells' (run μ budget' (length room') live.state registers'))
-      ≡ whole elements room (perform cells (run μ budget (length room) state registers))
-  unfolding with_first
+  -- the machine runs on
+  pub whole_on : (live : Live) → next ≡ Running live → whole_from μ budget' live.state after journal' ≡ whole_from μ budget before.state before journal
+  unfolding made rest with_first
   whole_on live e =
-      appended (perform cells' (run μ budget' (length room') live.state registers'))
-      ∙ ap (whole elements room)
-      (sym (perform_bind cells' (run μ budget' (length room') live.state registers') (λ outcome. done (preceded entry outcome)))
-      ∙ ap (λ n. perform cells' (continued (run μ budget' (length room')) entry registers' n)) (sym e)
-      ∙ sym continues)
+      let later : Program RunOutcome = run μ budget' (free journal') live.state after.registers.now in
+      goes_on (Running live) (perform after.cells.now later) e (perform_bind after.cells.now later (λ outcome. done (preceded made.stepped.entry outcome)))
 
   -- the machine stopped
   pub whole_off : (halted : Halted) → next ≡ Ended halted →
-      whole elements' room' (record { answered = ended (Stopped halted) registers'; cells = cells' })
-      ≡ whole elements room (perform cells (run μ budget (length room) state registers))
-  unfolding with_first
-  whole_off halted e =
-      appended (record { answered = ended (Stopped halted) registers'; cells = cells' })
-      ∙ ap (whole elements room)
-      (ap (λ n. perform cells' (continued (run μ budget' (length room')) entry registers' n)) (sym e)
-      ∙ sym continues)
-
-  -- a machine keeps its size
-  pub same_size : (live : Live) → next ≡ Running live → live.state.size ≡ state.size
-  same_size live e = keeps_size μ state registers cells live (sym turned.next ∙ e)
+      whole (elements journal') (room journal') (record { answered = ended (Stopped halted) after.registers.now; cells = after.cells.now })
+      ≡ whole_from μ budget before.state before journal
+  unfolding made rest with_first
+  whole_off halted e = goes_on (Ended halted) (record { answered = ended (Stopped halted) after.registers.now; cells = after.cells.now }) e refl
 
 -- the run is over: what it has come to is the whole
-module _ (μ₀ : Meaning) (budget₀ : ℕ) (state₀ : State) (cells₀ registers₀ : List Cell) (elements₀ room₀ : List Record) where
-  pub run_over : (end : End) (cells registers : List Cell) (elements room : List Record) (rest : Performed RunOutcome) →
-      rest ≡ record { answered = ended end registers; cells = cells } →
-      whole elements room rest ≡ whole elements₀ room₀ (perform cells₀ (run μ₀ budget₀ (length room₀) state₀ registers₀)) →
-      Runs μ₀ budget₀ state₀ cells₀ registers₀ elements₀ room₀ end cells registers elements room
-  run_over end cells registers elements room rest over so_far =
-      let all : whole elements room (record { answered = ended end registers; cells = cells }) ≡ whole elements₀ room₀ (perform cells₀ (run μ₀ budget₀ (length room₀) state₀ registers₀)) =
-      ap (whole elements room) (sym over) ∙ so_far in
-      let put : elements ≡ elements₀ ++ (answer cells₀ (run μ₀ budget₀ (length room₀) state₀ registers₀)).records =
-      sym (append-nil elements) ∙ ap (λ (w : Whole). w.elements) all in
+module _ {R : Type 0} (meaning : R → Meaning) (budget₀ : ℕ) (first : Machine R) (journal₀ : Journal Record) where
+  abbrev μ : Meaning
+  μ = meaning first.rules.now
+
+  pub run_over : (end : End) (machine : Machine R) (journal : Journal Record) (rest : Performed RunOutcome) →
+      rest ≡ record { answered = ended end machine.registers.now; cells = machine.cells.now } →
+      whole (elements journal) (room journal) rest ≡ whole_from μ budget₀ first.state first journal₀ →
+      RunsOn meaning budget₀ first journal₀ end machine journal
+  run_over end machine journal rest over so_far =
+      let all : whole (elements journal) (room journal) (record { answered = ended end machine.registers.now; cells = machine.cells.now }) ≡ whole_from μ budget₀ first.state first journal₀ =
+      ap (whole (elements journal) (room journal)) (sym over) ∙ so_far in
+      let put : elements journal ≡ elements journal₀ ++ (answer first.cells.now (run μ budget₀ (free journal₀) first.state first.registers.now)).records =
+      sym (append-nil (elements journal)) ∙ ap (λ (w : Whole). w.elements) all in
       record {
         end = ap (λ (w : Whole). w.end) all;
         cells = ap (λ (w : Whole). w.cells) all;
         registers = ap (λ (w : Whole). w.registers) all;
         elements = put;
-        count = ap length put ∙ length-append elements₀ _;
+        count = ap length put ∙ length-append (elements journal₀) _;
         room = ap (λ (w : Whole). w.room) all;
-        lawful = law_of_run μ₀ budget₀ (length room₀) state₀ registers₀ cells₀ end cells registers
+        lawful = law_of_run μ budget₀ (free journal₀) first.state first.registers.now first.cells.now end machine.cells.now machine.registers.now
             (ap (λ (w : Whole). w.end) all) (ap (λ (w : Whole). w.cells) all) (ap (λ (w : Whole). w.registers) all);
       }
 
-  -- the same where the journal had no place for another record
-  pub run_waits : (μ : Meaning) (budget : ℕ) (state : State) (cells registers : List Cell) (elements room : List Record)
-      (cells' registers' : List Cell) (elements' room' : List Record) → 0 < budget →
-      Waits cells registers elements room cells' registers' elements' room' →
-      whole elements room (perform cells (run μ budget (length room) state registers)) ≡ whole elements₀ room₀ (perform cells₀ (run μ₀ budget₀ (length room₀) state₀ registers₀)) →
-      Runs μ₀ budget₀ state₀ cells₀ registers₀ elements₀ room₀ (Full (record { state = state })) cells' registers' elements' room'
-  run_waits μ budget state cells registers elements room cells' registers' elements' room' some waits so_far =
-      run_over (Full (record { state = state })) cells' registers' elements' room' (perform cells (run μ budget (length room) state registers))
-      (run_full μ budget (length room) state registers cells some waits.free ∙ left)
-      (ap (λ x. whole x room' rest) waits.elements ∙ ap (λ x. whole elements x rest) waits.room ∙ so_far)
+  -- the budget was spent
+  pub run_ends : (budget : ℕ) (machine : Machine R) (journal : Journal Record) → budget ≡ 0 →
+      whole_from μ budget machine.state machine journal ≡ whole_from μ budget₀ first.state first journal₀ →
+      RunsOn meaning budget₀ first journal₀ (Spent (record { state = machine.state })) machine journal
+  run_ends budget machine journal none so_far =
+      run_over (Spent (record { state = machine.state })) machine journal _
+      (run_spent μ budget (free journal) machine.state machine.registers.now machine.cells.now none) so_far
+
+  -- the journal had no place for another record
+  pub run_waits : (budget : ℕ) (before after : Machine R) (journal journal' : Journal Record) → 0 < budget → after.state ≡ before.state →
+      Waits before.cells.now before.registers.now (elements journal) (room journal) after.cells.now after.registers.now (elements journal') (room journal') →
+      whole_from μ budget before.state before journal ≡ whole_from μ budget₀ first.state first journal₀ →
+      RunsOn meaning budget₀ first journal₀ (Full (record { state = after.state })) after journal'
+  run_waits budget before after journal journal' some still waits so_far =
+      run_over (Full (record { state = after.state })) after journal' rest
+      (run_full μ budget (free journal) before.state before.registers.now before.cells.now some waits.free ∙ left)
+      (ap (λ x. whole x (room journal') rest) waits.elements ∙ ap (λ x. whole (elements journal) x rest) waits.room ∙ so_far)
     where
       rest : Performed RunOutcome
-      rest = perform cells (run μ budget (length room) state registers)
+      rest = perform before.cells.now (run μ budget (free journal) before.state before.registers.now)
 
-      left : ◌≡◌ {A = Performed RunOutcome} (record { answered = ended (Full (record { state = state })) registers; cells = cells })
-          (record { answered = ended (Full (record { state = state })) registers'; cells = cells' })
-      left = let c = waits.cells in let r = waits.registers in cc
+      left : ◌≡◌ {A = Performed RunOutcome} (record { answered = ended (Full (record { state = before.state })) before.registers.now; cells = before.cells.now })
+          (record { answered = ended (Full (record { state = after.state })) after.registers.now; cells = after.cells.now })
+      left = let c = waits.cells in let r = waits.registers in let s = still in cc

@@ -1,8 +1,7 @@
 -- Every step obeys its law.
-use Rattle.std.proofs.Common.{◌≡◌, ℕ, Bool, true, false, cond, ◌&&◌, eqb, ltb, ◌≢◌, List, set, Some, None, Option, sym, refl, ap, ◌∙◌, subst, get_or-set_other, rules}
-use Rattle.rulebook.specs.declared.answer.Answer.{Answer}
-use Rattle.rulebook.specs.declared.answer.Answer.TheVariants.{Allowed, Denied}
+use Rattle.std.proofs.Common.{◌≡◌, ℕ, Bool, true, false, cond, ◌&&◌, eqb, ltb, ◌≢◌, List, set, Some, None, Ok, Err, Option, sym, refl, ap, ◌∙◌, get_or-set_other, rules}
 use Rattle.rulebook.specs.declared.question.Question.{Question}
+use Rattle.rulebook.specs.Answer.{Answer, allowed}
 use Rattle.rulebook.specs.Group.{number_of}
 use Rattle.instruction.specs.declared.instruction.Instruction.{Instruction}
 use Rattle.instruction.specs.Decode.{decoded}
@@ -13,9 +12,6 @@ use Rattle.machine.specs.declared.step.Access.TheVariants as access
 use Rattle.machine.specs.declared.records.Cause.{Cause}
 use Rattle.machine.specs.declared.records.Cause.TheVariants as cause
 use Rattle.machine.specs.declared.records.Record.{Record}
-use Rattle.machine.specs.declared.state.Live.{Live}
-use Rattle.machine.specs.declared.state.Next.{Next}
-use Rattle.machine.specs.declared.state.Next.TheVariants.{Running, Ended}
 use Rattle.machine.specs.declared.state.State.{State}
 use Rattle.machine.specs.declared.step.Fetched.{Fetched}
 use Rattle.machine.specs.Cause.{cause_number}
@@ -23,7 +19,7 @@ use Rattle.machine.specs.Cells.{blank, cell_in, tag_in, word_in}
 use Rattle.machine.specs.Effect.{access_of, address_in, target_of, written}
 use Rattle.machine.specs.Program.{Program, answer, after}
 use Rattle.machine.specs.declared.state.Stepped.{Stepped}
-use Rattle.machine.specs.Step.{Meaning, Outcome, Performs, stop, cell_told, done_entry, recorded, next_by, state_after, cause_of, performed, ruled, judged, asks, within, reached, read, looked_at, fetched, fetch_question, inside, step}
+use Rattle.machine.specs.Step.{Meaning, Outcome, Performs, stop, cell_told, done_entry, recorded, cause_of, performed, ruled, judged, asks, within, reached, read, looked_at, fetched, fetch_question, inside, step}
 use Rattle.machine.specs.StepLaw.{WhereDone, WhereStopped, StepLaw, allowed_tag, register_told, target_in}
 
 -- what an instruction that went through is told by
@@ -66,7 +62,7 @@ module _ (μ : Meaning) (state : State) (registers cells : List Cell) where
   Stops cause.PcOutside = Unit {0}
   Stops cause.Illegal = Unit {0}
   Stops cause.DataOutside = Unit {0}
-  Stops (cause.Denied half violation) = Unit {0}
+  Stops (cause.Denied denial) = Unit {0}
   Stops cause.Running = ⊥
 
   stopped : (word address : ℕ) (q : Question) (c : Cause) → Stops c → Lawful (stop state registers word address q c)
@@ -76,8 +72,8 @@ module _ (μ : Meaning) (state : State) (registers cells : List Cell) where
   -- an instruction that was fetched
   module _ (f : Fetched) (ci_there : f.ci ≡ tag_in cells state.pc) (word_there : f.word ≡ word_in cells state.pc)
       (legal : decoded f.word ≡ Some f.instruction)
-      (allowed : allowed_tag (μ (fetch_question state.tag (tag_in cells state.pc))) ≡ Some f.tag) where
-    module _ (m tag r : ℕ) (a : Access) (reaches : access_of f.instruction registers ≡ a) (e : μ (asks f registers a m).question ≡ Allowed tag r) where
+      (fetches : allowed_tag (μ (fetch_question state.tag (tag_in cells state.pc))) ≡ Some f.tag) where
+    module _ (m tag r : ℕ) (a : Access) (reaches : access_of f.instruction registers ≡ a) (e : μ (asks f registers a m).question ≡ allowed tag r) where
       entry_of : ℕ → Record
       entry_of loaded = done_entry state registers (asks f registers a m) loaded tag r
 
@@ -101,13 +97,13 @@ module _ (μ : Meaning) (state : State) (registers cells : List Cell) where
             one_register = λ i n. one_written (target_of f.instruction) (cell_told (entry_of loaded)) registers i (λ w. n (w ∙ register_named loaded));
             leaves = never f.instruction _;
             there = always f.instruction _ (ci_there, word_there);
-            fetched = always f.instruction _ allowed;
+            fetched = always f.instruction _ fetches;
             allowed = always f.instruction _ e;
             counts = always f.instruction _ refl;
           }
 
     went_through : (m tag r : ℕ) (a : Access) → access_of f.instruction registers ≡ a →
-        μ (asks f registers a m).question ≡ Allowed tag r → Lawful (performed state registers (asks f registers a m) tag r a)
+        μ (asks f registers a m).question ≡ allowed tag r → Lawful (performed state registers (asks f registers a m) tag r a)
     unfolding Lawful is_store entry_of
     went_through m tag r access.Nothing reaches e = told m tag r access.Nothing reaches e 0 false refl
     went_through m tag r (access.Load address) reaches e = told m tag r (access.Load address) reaches e (word_in cells address) false refl
@@ -118,8 +114,8 @@ module _ (μ : Meaning) (state : State) (registers cells : List Cell) where
     judged_lawful m a reaches = go (μ (asks f registers a m).question) refl
       where
         go : (ruling : Answer) → μ (asks f registers a m).question ≡ ruling → Lawful (ruled state registers (asks f registers a m) ruling)
-        go (Denied half violation) e = stopped f.word (address_in a) (asks f registers a m).question (cause.Denied half violation) tt
-        go (Allowed tag r) e = went_through m tag r a reaches e
+        go (Err denial) e = stopped f.word (address_in a) (asks f registers a m).question (cause.Denied denial) tt
+        go (Ok tags) e = went_through m tags.pc tags.r a reaches e
 
     within_lawful : (a : Access) → access_of f.instruction registers ≡ a → (t : Bool) → Lawful (within μ state registers f a t)
     unfolding Lawful Stops
@@ -132,7 +128,7 @@ module _ (μ : Meaning) (state : State) (registers cells : List Cell) where
     reached_lawful (access.Load address) reaches = within_lawful (access.Load address) reaches _
     reached_lawful (access.Store address) reaches = within_lawful (access.Store address) reaches _
 
-  read_lawful : (tag r : ℕ) → μ (fetch_question state.tag (tag_in cells state.pc)) ≡ Allowed tag r →
+  read_lawful : (tag r : ℕ) → μ (fetch_question state.tag (tag_in cells state.pc)) ≡ allowed tag r →
       Lawful (looked_at μ state registers (tag_in cells state.pc) tag)
   unfolding Lawful Stops
   read_lawful tag r e = go (decoded (word_in cells state.pc)) refl
@@ -144,8 +140,8 @@ module _ (μ : Meaning) (state : State) (registers cells : List Cell) where
   fetched_lawful : (ruling : Answer) → μ (fetch_question state.tag (tag_in cells state.pc)) ≡ ruling →
       Lawful (fetched μ state registers (tag_in cells state.pc) ruling)
   unfolding Lawful Stops
-  fetched_lawful (Denied half violation) e = stopped 0 0 _ (cause.Denied half violation) tt
-  fetched_lawful (Allowed tag r) e = read_lawful tag r e
+  fetched_lawful (Err denial) e = stopped 0 0 _ (cause.Denied denial) tt
+  fetched_lawful (Ok tags) e = read_lawful tags.pc tags.r e
 
   inside_lawful : (t : Bool) → Lawful (inside μ state registers t)
   unfolding Lawful Stops
@@ -156,24 +152,4 @@ module _ (μ : Meaning) (state : State) (registers cells : List Cell) where
       StepLaw μ state cells registers stepped cells' registers'
   unfolding Lawful
   law_of_step stepped cells' registers' p =
-      subst (λ x. StepLaw μ state cells registers x cells' registers') (sym p.stepped)
-      (subst (λ x. StepLaw μ state cells registers (answer cells (step μ state registers)).stepped x registers') (sym p.cells)
-      (subst (λ x. StepLaw μ state cells registers (answer cells (step μ state registers)).stepped (after cells (step μ state registers)) x) (sym p.registers)
-      (inside_lawful (ltb state.pc state.size))))
-
-size_of : Next → ℕ
-size_of (Running live) = live.state.size
-size_of (Ended stopped) = stopped.state.size
-
-next_size : (c : Cause) (state : State) → size_of (next_by c state) ≡ state.size
-unfolding size_of
-next_size c state = search rules
-
--- a machine keeps its size
-pub keeps_size : (μ : Meaning) (state : State) (registers cells : List Cell) (live : Live) →
-    (answer cells (step μ state registers)).stepped.next ≡ Running live → live.state.size ≡ state.size
-unfolding size_of
-keeps_size μ state registers cells live e =
-    let law = law_of_step μ state registers cells _ _ _ (record { stepped = refl; cells = refl; registers = refl }) in
-    let entry : Record = (answer cells (step μ state registers)).stepped.entry in
-    ap size_of (sym e ∙ law.next) ∙ next_size entry.cause (state_after state.size entry)
+      rw (p.stepped, p.cells, p.registers) (inside_lawful (ltb state.pc state.size))

@@ -9,3 +9,4 @@ pub mod RunLaw
 pub mod Step
 pub mod StepCall
 pub mod StepLaw
+pub mod Work

@@ -1,10 +1,9 @@
 -- One step, as a program of memory commands.  Its six parts stand below from the last to the first, since each names the next.
-use Rattle.std.specs.Prelude.{◌≡◌, ℕ, ◌+◌, ◌-◌, ◌^◌, min, Bool, true, false, List, Some, None, Option, nat_lt}
-use Rattle.rulebook.specs.declared.answer.Answer.{Answer}
-use Rattle.rulebook.specs.declared.answer.Answer.TheVariants.{Allowed, Denied}
+use Rattle.std.specs.Prelude.{◌≡◌, ℕ, ◌+◌, ◌-◌, ◌^◌, min, Bool, true, false, List, Some, None, Ok, Err, Option, nat_lt}
 use Rattle.rulebook.specs.declared.group.Group.{Group}
 use Rattle.rulebook.specs.declared.group.Group.TheVariants as group
 use Rattle.rulebook.specs.declared.question.Question.{Question}
+use Rattle.rulebook.specs.Answer.{Answer}
 use Rattle.instruction.specs.declared.instruction.Instruction.{Instruction}
 use Rattle.instruction.specs.declared.instruction.Instruction.TheVariants.{Halt, Const, Move, Compute, Load, Store, Jump, Branch, Call, Ret, Out}
 use Rattle.instruction.specs.Decode.{decoded}
@@ -51,7 +50,7 @@ next_by cause.Halted state = Ended (record { state = state })
 next_by cause.PcOutside state = Ended (record { state = state })
 next_by cause.Illegal state = Ended (record { state = state })
 next_by cause.DataOutside state = Ended (record { state = state })
-next_by (cause.Denied half violation) state = Ended (record { state = state })
+next_by (cause.Denied denial) state = Ended (record { state = state })
 next_by cause.Running state = Running (record { state = state })
 
 abbrev pub recorded : ℕ → Record → Stepped
@@ -137,9 +136,9 @@ performed state registers asked tag r (access.Store address) =
 
 -- 5. The op is asked; denial stops.
 abbrev pub ruled : State → List Cell → Asked → Answer → Program Outcome
-ruled state registers asked (Denied half violation) =
-    stop state registers asked.word (address_in asked.access) asked.question (cause.Denied half violation)
-ruled state registers asked (Allowed tag r) = performed state registers asked tag r asked.access
+ruled state registers asked (Err denial) =
+    stop state registers asked.word (address_in asked.access) asked.question (cause.Denied denial)
+ruled state registers asked (Ok tags) = performed state registers asked tags.pc tags.r asked.access
 
 abbrev pub judged : Meaning → State → List Cell → Asked → Program Outcome
 judged μ state registers asked = ruled state registers asked (μ asked.question)
@@ -190,9 +189,9 @@ abbrev pub fetch_question : ℕ → ℕ → Question
 fetch_question tag ci = record { group = group.Fetch; pc = tag; ci = ci; a = 0; b = 0; m = 0 }
 
 abbrev pub fetched : Meaning → State → List Cell → ℕ → Answer → Program Outcome
-fetched μ state registers ci (Denied half violation) =
-    stop state registers 0 0 (unasked group.Fetch ci) (cause.Denied half violation)
-fetched μ state registers ci (Allowed tag r) = looked_at μ state registers ci tag
+fetched μ state registers ci (Err denial) =
+    stop state registers 0 0 (unasked group.Fetch ci) (cause.Denied denial)
+fetched μ state registers ci (Ok tags) = looked_at μ state registers ci tags.pc
 
 -- 1. A pc outside memory stops.
 abbrev pub inside : Meaning → State → List Cell → Bool → Program Outcome

@@ -1,8 +1,7 @@
 -- What every step obeys, in terms of its record.
-use Rattle.std.specs.Prelude.{◌≡◌, ℕ, Bool, cond, ◌&&◌, List, Some, None, Option, ◌==◌, ◌≢◌, slice_set}
-use Rattle.rulebook.specs.declared.answer.Answer.{Answer}
-use Rattle.rulebook.specs.declared.answer.Answer.TheVariants as ruling
+use Rattle.std.specs.Prelude.{◌≡◌, ℕ, Bool, cond, ◌&&◌, List, Some, None, Ok, Err, Option, ◌==◌, ◌≢◌, slice_set}
 use Rattle.rulebook.specs.declared.group.Group.TheVariants as group
+use Rattle.rulebook.specs.Answer.{Answer, allowed}
 use Rattle.rulebook.specs.Group.{number_of}
 use Rattle.instruction.specs.declared.instruction.Instruction.{Instruction}
 use Rattle.instruction.specs.Decode.{decoded}
@@ -24,7 +23,7 @@ WhereDone Halted P = P
 WhereDone PcOutside P = Unit {0}
 WhereDone Illegal P = Unit {0}
 WhereDone DataOutside P = Unit {0}
-WhereDone (Denied half violation) P = Unit {0}
+WhereDone (Denied denial) P = Unit {0}
 WhereDone Running P = P
 
 -- P, where it was stopped, with a cause of 1 to 4
@@ -33,7 +32,7 @@ WhereStopped Halted P = Unit {0}
 WhereStopped PcOutside P = P
 WhereStopped Illegal P = P
 WhereStopped DataOutside P = P
-WhereStopped (Denied half violation) P = P
+WhereStopped (Denied denial) P = P
 WhereStopped Running P = Unit {0}
 
 abbrev pub runs_on : Record → Bool
@@ -60,8 +59,8 @@ registers_told entry registers = written (register_told entry) (cell_told entry)
 
 -- the pc tag of an answer that allows
 abbrev pub allowed_tag : Answer → Option ℕ
-allowed_tag (ruling.Allowed pc r) = Some pc
-allowed_tag (ruling.Denied half violation) = None
+allowed_tag (Ok tags) = Some tags.pc
+allowed_tag (Err denial) = None
 
 pub record StepLaw (μ : Meaning) (state : State) (before registers_before : List Cell) (stepped : Stepped) (cells_left registers_left : List Cell) : Type 0 where
   -- the record tells all that has changed: the cells, the registers and the machine
@@ -80,6 +79,6 @@ pub record StepLaw (μ : Meaning) (state : State) (before registers_before : Lis
   pub fetched : WhereDone stepped.entry.cause
       (allowed_tag (μ (fetch_question state.tag (tag_in before state.pc))) ≡ Some stepped.entry.question.pc)
   pub allowed : WhereDone stepped.entry.cause
-      (μ stepped.entry.question ≡ ruling.Allowed stepped.entry.tag stepped.entry.r)
+      (μ stepped.entry.question ≡ allowed stepped.entry.tag stepped.entry.r)
   -- and it is counted
   pub counts : WhereDone stepped.entry.cause (stepped.entry.count ≡ counted state.count)

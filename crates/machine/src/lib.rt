@@ -11,6 +11,6 @@ pub use cell::Cell;
 pub use records::{Cause, Record};
 pub use state::{
     Count, End, FEWEST_CELLS, Live, MOST_CELLS, MOST_STEPS, Next, REGISTERS, Ran, Refused, State,
-    Stepped,
+    Stepped, in_limits,
 };
 pub use stopped::Stopped;

@@ -2,7 +2,7 @@ ghost use Rattle.std.specs.Prelude.{◌≡◌};
 ghost use Rattle.machine.specs.Cause.{cause_number, cause_half, cause_violation};
 
 use crate::state::Count;
-use rulebook::{Group, Half, Question};
+use rulebook::{Denial, Group, Question};
 
 /// How a step ended.
 #[derive(Clone, Copy, Debug)]
@@ -16,12 +16,13 @@ pub enum Cause {
     /// the address of a load or a store is at no cell
     DataOutside,
     /// the rulebook denied the fetch or the op
-    Denied { half: Half, violation: u8 },
+    Denied(Denial),
     /// the machine runs on
     Running,
 }
 
 impl Cause {
+    // Written out, since a variant has fields and so there is no `as u8`.
     pub fn number(self) -> u8
         ensures { result ≡ cause_number self }
     {
@@ -30,7 +31,7 @@ impl Cause {
             Cause::PcOutside => 1,
             Cause::Illegal => 2,
             Cause::DataOutside => 3,
-            Cause::Denied { .. } => 4,
+            Cause::Denied(_) => 4,
             Cause::Running => 255,
         }
     }
@@ -40,7 +41,7 @@ impl Cause {
         ensures { result ≡ cause_half self }
     {
         match self {
-            Cause::Denied { half, .. } => half.number(),
+            Cause::Denied(denial) => u8::from(denial.half),
             _ => 0,
         }
     }
@@ -50,7 +51,7 @@ impl Cause {
         ensures { result ≡ cause_violation self }
     {
         match self {
-            Cause::Denied { violation, .. } => violation,
+            Cause::Denied(denial) => denial.violation,
             _ => 0,
         }
     }

@@ -1,6 +1,6 @@
 ghost use Rattle.std.specs.Prelude.{◌≡◌, IfErr};
 ghost use Rattle.refusal.specs.Refusal.{refusal_number};
-ghost use Rattle.machine.specs.Calls.{fitting, start_answer};
+ghost use Rattle.machine.specs.Calls.{fitting, in_limits, start_answer};
 
 use crate::cell::Cell;
 use crate::records::Record;
@@ -38,6 +38,7 @@ pub struct Live {
 }
 
 /// The machine after a step.
+// No Result or ControlFlow: that it stopped is no failure, and the two names say what follows.
 #[derive(Drop)]
 pub enum Next {
     Running(Live),
@@ -92,7 +93,7 @@ impl Live {
         ensures refused { IfErr result (λ e. refusal_number e ≡ 1) }
     {
         let size = cells.len();
-        if size < FEWEST_CELLS || size > MOST_CELLS {
+        if !in_limits(size) {
             return Err(Refusal::Sizes);
         }
         Ok(Live {
@@ -112,13 +113,17 @@ impl Live {
     }
 }
 
+/// Whether a machine may have so many cells.
+pub fn in_limits(size: usize) -> bool
+    ensures { result ≡ in_limits size }
+{
+    (FEWEST_CELLS..=MOST_CELLS).contains(&size)
+}
+
 // Whether cells and registers are as many as the machine needs.
 pub(crate) fn fits(state: State, cells: &[Cell], registers: &[Cell]) -> bool
     ensures { result ≡ fitting state cells.now registers.now }
 {
     let size = cells.len();
-    size >= FEWEST_CELLS
-        && size <= MOST_CELLS
-        && size == state.size as usize
-        && registers.len() == REGISTERS
+    in_limits(size) && size == state.size as usize && registers.len() == REGISTERS
 }

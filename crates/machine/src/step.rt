@@ -1,8 +1,11 @@
-ghost use Rattle.std.specs.Prelude.{◌≡◌, ◌+◌, ◌<◌, length, IfSome, if◌then◌else◌, nat_eq, slice_set};
-ghost use Rattle.instruction.specs.Instruction.{Fits};
+ghost use Rattle.std.specs.Prelude.{◌≡◌, ◌+◌, ◌<◌, IfSome, if◌then◌else◌, nat_eq};
+ghost use Rattle.instruction.specs.Decode.{decoded};
+ghost use Rattle.instruction.specs.Instruction.{group_of};
 ghost use Rattle.instruction.specs.Operation.{wrap};
-ghost use Rattle.machine.specs.Cells.{cell_in, tag_in, word_in};
-ghost use Rattle.machine.specs.Effect.{access_of, address_in, sources_of, target_of, effect_of, written};
+ghost use Rattle.machine.specs.Calls.{Sized};
+ghost use Rattle.machine.specs.Cells.{cell_in, word_in};
+ghost use Rattle.machine.specs.Effect.{access_of, address_in, sources_of, target_of, effect_of};
+ghost use Rattle.machine.specs.Program.{done};
 ghost use Rattle.machine.specs.Step.{unasked as not_asked, recorded as told, next_by, stop_entry, cause_of, done_entry, went};
 
 use crate::cell::Cell;
@@ -10,19 +13,90 @@ use crate::records::{Cause, Record};
 use crate::state::{Live, Next, State, Stepped};
 use crate::stopped::Stopped;
 use instruction::Instruction;
-use rulebook::{Group, Question};
+use rulebook::{Group, Question, Rulebook};
+use std::marker::Model;
 
 mod order;
 
-// What an instruction does to cells and registers, and the record of it.  Only the modules below see it, since
-// it asks of its caller that registers and addresses are in range.
+// What an instruction does to a machine at work, and the record of it.  Only the modules below see it, since it
+// asks of its caller that addresses are in range.
 
-// The memory cell that an instruction reaches.
+// An instruction that was decoded: the registers that it names are there.
+#[derive(Clone, Copy)]
+struct Legal {
+    instruction: Instruction,
+}
+
+impl Model for Legal {
+    ghost use Rattle.instruction.specs.declared.instruction.Instruction.{Instruction};
+    ghost use Rattle.instruction.specs.Instruction.{Fits};
+
+    ghost Value = { Instruction };
+
+    ghost view = { λ legal. legal.instruction };
+
+    ghost inverse = { λ instruction. record { instruction = instruction } };
+
+    ghost invariant = { λ legal. Fits legal.instruction };
+}
+
+impl Legal {
+    fn decode(word: u32) -> Option<Legal>
+        ensures { result ≡ decoded word }
+    {
+        let instruction = Instruction::decode(word)?;
+        Some(Legal { instruction })
+    }
+
+    fn group(self) -> Group
+        ensures { result ≡ group_of self }
+    {
+        self.instruction.group()
+    }
+
+    // The register that is written.
+    fn target(self) -> Option<u8>
+        ensures target { result ≡ target_of self }
+        ensures there { IfSome result (λ d. d < 16) }
+    {
+        match self.instruction {
+            Instruction::Const { d, .. }
+            | Instruction::Move { d, .. }
+            | Instruction::Compute { d, .. }
+            | Instruction::Load { d, .. }
+            | Instruction::Call { d, .. } => Some(d),
+            _ => None,
+        }
+    }
+
+    fn cause(self) -> Cause
+        ensures { result ≡ cause_of self }
+    {
+        match self.instruction {
+            Instruction::Halt => Cause::Halted,
+            _ => Cause::Running,
+        }
+    }
+}
+
+// The memory cell that an instruction reaches.  No Option of an address with a kind beside it: each case is
+// matched by name, and what reaches nothing has no kind.
 #[derive(Clone, Copy)]
 enum Access {
     Nothing,
     Load { address: u32 },
     Store { address: u32 },
+}
+
+impl Access {
+    fn address(self) -> u32
+        ensures { result ≡ address_in self }
+    {
+        match self {
+            Access::Nothing => 0,
+            Access::Load { address } | Access::Store { address } => address,
+        }
+    }
 }
 
 // What an instruction writes or shows, and where it goes on.
@@ -32,124 +106,191 @@ struct Effect {
     next: u32,
 }
 
-impl Access {
-    fn address(self) -> u32
-        ensures { result ≡ address_in self }
+// An instruction that was fetched, with its cell's tag and the pc tag that the fetch left.
+#[derive(Clone, Copy)]
+struct Fetched {
+    ci: u32,
+    tag: u32,
+    word: u32,
+    instruction: Legal,
+}
+
+// An instruction whose question is to be put.
+#[derive(Clone, Copy)]
+struct Asked {
+    word: u32,
+    instruction: Legal,
+    access: Access,
+    question: Question,
+}
+
+// A machine at work: its numbers, and the cells, registers and rulebook that the caller has lent it.
+#[derive(Drop)]
+struct Machine<'m, R> {
+    state: State,
+    cells: &'m mut [Cell],
+    registers: &'m mut [Cell],
+    rules: &'m mut R,
+    ghost sized: { Sized state cells.now registers.now },
+}
+
+impl<'m, R> Machine<'m, R> {
+    fn register(&self, s: u8) -> Cell
+        requires { s < 16 }
+        ensures { result ≡ cell_in self.now.registers.now s }
     {
-        match self {
-            Access::Nothing => 0,
-            Access::Load { address } => address,
-            Access::Store { address } => address,
+        self.registers[usize::from(s)]
+    }
+
+    // The cell at an address; a caller has shown that it is there, so nothing is tested.
+    fn cell(&self, address: u32) -> Cell
+        requires { address < self.now.state.size }
+        ensures { result ≡ cell_in self.now.cells.now address }
+    {
+        self.cells[address as usize]
+    }
+
+    fn reach(&self, instruction: Legal) -> Access
+        ensures { result ≡ access_of instruction self.now.registers.now }
+    {
+        match instruction.instruction {
+            Instruction::Load { s, k, .. } => Access::Load {
+                address: self.data_address(s, k),
+            },
+            Instruction::Store { s, k, .. } => Access::Store {
+                address: self.data_address(s, k),
+            },
+            _ => Access::Nothing,
         }
     }
-}
 
-fn reach(instruction: Instruction, registers: &[Cell]) -> Access
-    requires fits { Fits instruction }
-    requires sixteen { length registers.now ≡ 16 }
-    ensures { result ≡ access_of instruction registers.now }
-{
-    match instruction {
-        Instruction::Load { s, k, .. } => Access::Load {
-            address: data_address(registers, s, k),
-        },
-        Instruction::Store { s, k, .. } => Access::Store {
-            address: data_address(registers, s, k),
-        },
-        _ => Access::Nothing,
+    fn data_address(&self, s: u8, k: u32) -> u32
+        requires { s < 16 }
+        ensures { result ≡ wrap (word_in self.now.registers.now s + k) }
+    {
+        self.register(s).word.wrapping_add(k)
+    }
+
+    // The tags a and b that the op is asked with.
+    fn sources(&self, instruction: Legal) -> (u32, u32)
+        ensures { result ≡ sources_of instruction self.now.registers.now }
+    {
+        match instruction.instruction {
+            Instruction::Halt | Instruction::Const { .. } | Instruction::Call { .. } => (0, 0),
+            Instruction::Compute { s, t, .. } => (self.register(s).tag, self.register(t).tag),
+            Instruction::Store { d, s, .. } => (self.register(d).tag, self.register(s).tag),
+            Instruction::Move { s, .. }
+            | Instruction::Load { s, .. }
+            | Instruction::Jump { s }
+            | Instruction::Branch { s, .. }
+            | Instruction::Ret { s }
+            | Instruction::Out { s } => (self.register(s).tag, 0),
+        }
+    }
+
+    fn evaluate(&self, instruction: Legal, loaded: u32) -> Effect
+        ensures { result ≡ effect_of instruction self.now.state.pc loaded self.now.registers.now }
+    {
+        let pc = self.state.pc;
+        let next = pc.wrapping_add(1);
+        match instruction.instruction {
+            Instruction::Halt => Effect {
+                result: 0,
+                next: pc,
+            },
+            Instruction::Const { k, .. } => Effect { result: k, next },
+            Instruction::Compute { op, s, t, .. } => Effect {
+                result: op.apply(self.register(s).word, self.register(t).word),
+                next,
+            },
+            Instruction::Load { .. } => Effect {
+                result: loaded,
+                next,
+            },
+            Instruction::Store { d: s, .. }
+            | Instruction::Move { s, .. }
+            | Instruction::Out { s } => Effect {
+                result: self.register(s).word,
+                next,
+            },
+            Instruction::Jump { s } | Instruction::Ret { s } => Effect {
+                result: 0,
+                next: self.register(s).word,
+            },
+            Instruction::Branch { s, k } => Effect {
+                result: 0,
+                next: branch(self.register(s).word, next, k),
+            },
+            Instruction::Call { k, .. } => Effect {
+                result: next,
+                next: next.wrapping_add(k),
+            },
+        }
+    }
+
+    fn stop(&self, word: u32, address: u32, question: Question, cause: Cause) -> Stepped
+        ensures { result ≡ told self.now.state.size (stop_entry self.now.state word address question cause) }
+    {
+        let State {
+            pc,
+            tag,
+            count,
+            size,
+        } = self.state;
+        recorded(
+            size,
+            Record {
+                count,
+                pc,
+                word,
+                question,
+                address,
+                next: pc,
+                tag,
+                cause,
+                ..Record::BLANK
+            },
+        )
     }
 }
 
-fn data_address(registers: &[Cell], s: u8, k: u32) -> u32
-    requires { s < length registers.now }
-    ensures { result ≡ wrap (word_in registers.now s + k) }
-{
-    word_of(registers, s).wrapping_add(k)
-}
+impl<'m, R: Rulebook> Machine<'m, R> {
+    ghost use Rattle.machine.specs.Work.{Works};
 
-// The tags a and b that the op is asked with.
-fn sources(instruction: Instruction, registers: &[Cell]) -> (u32, u32)
-    requires fits { Fits instruction }
-    requires sixteen { length registers.now ≡ 16 }
-    ensures { result ≡ sources_of instruction registers.now }
-{
-    match instruction {
-        Instruction::Halt | Instruction::Const { .. } | Instruction::Call { .. } => (0, 0),
-        Instruction::Compute { s, t, .. } => (tag_of(registers, s), tag_of(registers, t)),
-        Instruction::Store { d, s, .. } => (tag_of(registers, d), tag_of(registers, s)),
-        Instruction::Move { s, .. } => (tag_of(registers, s), 0),
-        Instruction::Load { s, .. } => (tag_of(registers, s), 0),
-        Instruction::Jump { s } => (tag_of(registers, s), 0),
-        Instruction::Branch { s, .. } => (tag_of(registers, s), 0),
-        Instruction::Ret { s } => (tag_of(registers, s), 0),
-        Instruction::Out { s } => (tag_of(registers, s), 0),
-    }
-}
-
-// The register that is written.
-fn target(instruction: Instruction) -> Option<u8>
-    requires { Fits instruction }
-    ensures target { result ≡ target_of instruction }
-    ensures there { IfSome result (λ d. d < 16) }
-{
-    match instruction {
-        Instruction::Const { d, .. } => Some(d),
-        Instruction::Move { d, .. } => Some(d),
-        Instruction::Compute { d, .. } => Some(d),
-        Instruction::Load { d, .. } => Some(d),
-        Instruction::Call { d, .. } => Some(d),
-        _ => None,
-    }
-}
-
-fn evaluate(instruction: Instruction, pc: u32, loaded: u32, registers: &[Cell]) -> Effect
-    requires fits { Fits instruction }
-    requires sixteen { length registers.now ≡ 16 }
-    ensures { result ≡ effect_of instruction pc loaded registers.now }
-{
-    let next = pc.wrapping_add(1);
-    match instruction {
-        Instruction::Halt => Effect {
-            result: 0,
-            next: pc,
-        },
-        Instruction::Const { k, .. } => Effect { result: k, next },
-        Instruction::Move { s, .. } => Effect {
-            result: word_of(registers, s),
-            next,
-        },
-        Instruction::Compute { op, s, t, .. } => Effect {
-            result: op.apply(word_of(registers, s), word_of(registers, t)),
-            next,
-        },
-        Instruction::Load { .. } => Effect {
-            result: loaded,
-            next,
-        },
-        Instruction::Store { d, .. } => Effect {
-            result: word_of(registers, d),
-            next,
-        },
-        Instruction::Jump { s } => Effect {
-            result: 0,
-            next: word_of(registers, s),
-        },
-        Instruction::Branch { s, k } => Effect {
-            result: 0,
-            next: branch(word_of(registers, s), next, k),
-        },
-        Instruction::Call { k, .. } => Effect {
-            result: next,
-            next: next.wrapping_add(k),
-        },
-        Instruction::Ret { s } => Effect {
-            result: 0,
-            next: word_of(registers, s),
-        },
-        Instruction::Out { s } => Effect {
-            result: word_of(registers, s),
-            next,
-        },
+    // A step that went through, once memory has been read or written.
+    fn finish(&mut self, asked: Asked, loaded: u32, tag: u32, r: u32) -> Stepped
+        ensures finishes { Works R.Rulebook.meaning (λ _ state registers. done (went state registers asked (done_entry state registers asked loaded tag r))) self.old result self.new }
+    {
+        let effect = self.evaluate(asked.instruction, loaded);
+        let result = Cell {
+            word: effect.result,
+            tag: r,
+        };
+        if let Some(d) = asked.instruction.target() {
+            self.registers[usize::from(d)] = result;
+        }
+        let State {
+            pc,
+            count,
+            size,
+            ..
+        } = self.state;
+        recorded(
+            size,
+            Record {
+                count: count.saturating_add(1),
+                pc,
+                word: asked.word,
+                question: asked.question,
+                address: asked.access.address(),
+                loaded,
+                result: effect.result,
+                r,
+                next: effect.next,
+                tag,
+                cause: asked.instruction.cause(),
+            },
+        )
     }
 }
 
@@ -161,110 +302,6 @@ fn branch(condition: u32, next: u32, k: u32) -> u32
     } else {
         next.wrapping_add(k)
     }
-}
-
-fn write(registers: &mut [Cell], target: Option<u8>, cell: Cell)
-    requires sixteen { length registers.old ≡ 16 }
-    requires there { IfSome target (λ d. d < 16) }
-    ensures { registers.new ≡ written target cell registers.old }
-{
-    if let Some(d) = target {
-        put(registers, u32::from(d), cell);
-    }
-}
-
-fn word_of(registers: &[Cell], register: u8) -> u32
-    requires { register < length registers.now }
-    ensures { result ≡ word_in registers.now register }
-{
-    cell_at(registers, u32::from(register)).word
-}
-
-fn tag_of(registers: &[Cell], register: u8) -> u32
-    requires { register < length registers.now }
-    ensures { result ≡ tag_in registers.now register }
-{
-    cell_at(registers, u32::from(register)).tag
-}
-
-// An instruction that was fetched, with its cell's tag and the pc tag that the fetch left.
-#[derive(Clone, Copy)]
-struct Fetched {
-    ci: u32,
-    tag: u32,
-    word: u32,
-    instruction: Instruction,
-}
-
-// An instruction whose question is to be put.
-#[derive(Clone, Copy)]
-struct Asked {
-    word: u32,
-    instruction: Instruction,
-    access: Access,
-    question: Question,
-}
-
-fn stop(state: State, word: u32, address: u32, question: Question, cause: Cause) -> Stepped
-    ensures { result ≡ told state.size (stop_entry state word address question cause) }
-{
-    recorded(
-        state.size,
-        Record {
-            count: state.count,
-            pc: state.pc,
-            word,
-            question,
-            address,
-            loaded: 0,
-            result: 0,
-            r: 0,
-            next: state.pc,
-            tag: state.tag,
-            cause,
-        },
-    )
-}
-
-// A step that went through, once memory has been read or written.
-fn finish(
-    state: State,
-    registers: &mut [Cell],
-    asked: Asked,
-    loaded: u32,
-    tag: u32,
-    r: u32,
-) -> Stepped
-    requires fits { Fits asked.instruction }
-    requires sixteen { length registers.old ≡ 16 }
-    ensures stepped { result ≡ (went state registers.old asked (done_entry state registers.old asked loaded tag r)).stepped }
-    ensures registers { registers.new ≡ (went state registers.old asked (done_entry state registers.old asked loaded tag r)).registers }
-{
-    let effect = evaluate(asked.instruction, state.pc, loaded, registers);
-    write(
-        registers,
-        target(asked.instruction),
-        Cell {
-            word: effect.result,
-            tag: r,
-        },
-    );
-    recorded(
-        state.size,
-        Record {
-            count: state.count.saturating_add(1),
-            pc: state.pc,
-            word: asked.word,
-            question: asked.question,
-            address: asked.access.address(),
-            loaded,
-            result: effect.result,
-            r,
-            next: effect.next,
-            tag,
-            cause: cause_of(asked.instruction),
-        },
-    )
 }
 
 // The machine after a step is what its record tells.
@@ -292,39 +329,13 @@ fn next_state(cause: Cause, state: State) -> Next
     }
 }
 
-fn cause_of(instruction: Instruction) -> Cause
-    ensures { result ≡ cause_of instruction }
-{
-    match instruction {
-        Instruction::Halt => Cause::Halted,
-        _ => Cause::Running,
-    }
-}
-
+// The question of an op that was not asked.
 fn unasked(group: Group, ci: u32) -> Question
     ensures { result ≡ not_asked group ci }
 {
     Question {
         group,
-        pc: 0,
         ci,
-        a: 0,
-        b: 0,
-        m: 0,
+        ..Record::BLANK.question
     }
-}
-
-// The cell at a place; a caller has shown that the place is there, so nothing is tested.
-fn cell_at(cells: &[Cell], place: u32) -> Cell
-    requires { place < length cells.now }
-    ensures { result ≡ cell_in cells.now place }
-{
-    cells[place as usize]
-}
-
-fn put(cells: &mut [Cell], place: u32, cell: Cell)
-    requires { place < length cells.old }
-    ensures { cells.new ≡ slice_set cells.old place cell }
-{
-    cells[place as usize] = cell;
 }

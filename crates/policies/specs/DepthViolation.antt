@@ -1,7 +1,5 @@
 -- The violations of Depth Isolation and their numbers.
 use Rattle.std.specs.Prelude.{ℕ}
-use Rattle.rulebook.specs.declared.answer.NarrowAnswer.{NarrowAnswer}
-use Rattle.rulebook.specs.declared.answer.NarrowAnswer.TheVariants.{Denied}
 use Rattle.policies.specs.declared.depth_isolation.violation.DepthViolation.{DepthViolation}
 use Rattle.policies.specs.declared.depth_isolation.violation.DepthViolation.TheVariants.{NoDepth, NotCode, UnknownTag, ForeignCell, EmptyCell, CodeCell, StrayLink, NotEmpty, TooDeep, NoReturn}
 
@@ -16,6 +14,3 @@ violation_number StrayLink = 7
 violation_number NotEmpty = 8
 violation_number TooDeep = 9
 violation_number NoReturn = 10
-
-abbrev pub denied : DepthViolation → NarrowAnswer
-denied violation = Denied (violation_number violation)

@@ -3,7 +3,7 @@ ghost use Rattle.policies.specs.WriteOrExecute.{violation_number, write_or_execu
 ghost use Rattle.policies.specs.WriteOrExecuteLaw.{Lawful};
 ghost use Rattle.std.proofs.Common.{rules};
 
-use rulebook::{Group, Narrow, NarrowAnswer, Question, Violation};
+use rulebook::{Group, Narrow, Question, Tags, Violation};
 
 /// Why Write or execute denies.
 #[derive(Clone, Copy, PartialEq, Eq, Debug)]
@@ -24,7 +24,8 @@ impl Violation for WriteOrExecuteViolation {
     }
 }
 
-// The tags of a cell: what it holds is either read and written, or executed.
+// The tags of a cell: what it holds is either read and written, or executed. No enum: they are compared, and an enum of
+// them would only be turned back into numbers.
 const DATA: u32 = 0;
 
 const CODE: u32 = 1;
@@ -34,23 +35,25 @@ const CODE: u32 = 1;
 pub struct WriteOrExecute;
 
 impl Narrow for WriteOrExecute {
+    type Violation = WriteOrExecuteViolation;
+
     ghost rules = { λ _. write_or_execute };
 
     ghost narrow = { Prim.search rules };
 
-    fn decide(&self, q: Question) -> NarrowAnswer
+    fn decide(&self, q: Question) -> Result<Tags, WriteOrExecuteViolation>
         ensures answers { result ≡ write_or_execute q }
         ensures lawful { Lawful q result }
     {
         if q.pc != 0 || q.a != 0 || q.b != 0 {
-            return WriteOrExecuteViolation::Tagged.denied();
+            return Err(WriteOrExecuteViolation::Tagged);
         }
         if q.group != Group::Post && q.ci != CODE {
-            return WriteOrExecuteViolation::NotCode.denied();
+            return Err(WriteOrExecuteViolation::NotCode);
         }
         if q.m != DATA {
-            return WriteOrExecuteViolation::NotData.denied();
+            return Err(WriteOrExecuteViolation::NotData);
         }
-        NarrowAnswer::Allowed { pc: 0, r: DATA }
+        Ok(Tags { pc: 0, r: DATA })
     }
 }

@@ -1,14 +1,11 @@
-ghost use Rattle.std.specs.Prelude.{◌≡◌, ◌++◌, Some, codes, decimal, Decides, ◌==◌};
+ghost use Rattle.std.specs.Prelude.{◌≡◌, ◌++◌, Some, codes, decimal};
 ghost use Rattle.refusal.specs.Refusal.{refusal_number};
-ghost use Rattle.std.specs.Cmp.Rules.{comparing};
-ghost use Rattle.std.proofs.Common.{rules};
-ghost use Rattle.std.specs.Ordering.{on};
 
 use std::error::Error;
 use std::fmt;
 
 /// Why a call is refused. A refused call leaves everything that it was handed as it was.
-#[derive(Clone, Copy, Debug)]
+#[derive(Clone, Copy, PartialEq, Eq, Debug)]
 pub enum Refusal {
     /// cells or registers are not as many as they must be
     Sizes = 1,
@@ -32,37 +29,28 @@ pub enum Refusal {
     JournalFull = 11,
 }
 
-impl Refusal {
-    pub fn number(self) -> u8
-        ensures { result ≡ refusal_number self }
-    {
-        self as u8
+impl From<Refusal> for u8 {
+    ghost from_gives = { λ refusal r. r ≡ refusal_number refusal };
+
+    fn from(refusal: Refusal) -> u8 {
+        refusal as u8
     }
 }
 
-// Written out, to promise that `==` says whether two refusals are one and the same.
-impl PartialEq for Refusal {
-    ghost eq = { on refusal_number ◌==◌ };
-
-    ghost laws = { Prim.search (comparing, rules) };
-
-    fn eq(&self, other: &Refusal) -> bool
-        ensures gives { result ≡ on refusal_number ◌==◌ self.now other.now }
-        ensures decides { Decides result (self.now ≡ other.now) }
-    {
-        self.number() == other.number()
-    }
-}
-
+// `==` says whether two refusals are one and the same, and so is an equivalence.
+#[derived]
 impl Eq for Refusal {
-    ghost laws = { Prim.search (comparing, rules) };
+    ghost use Rattle.std.specs.Cmp.{decided};
+    ghost use Rattle.refusal.specs.Same.{same_refusal_decides};
+
+    ghost laws = { decided _ same_refusal_decides };
 }
 
 impl fmt::Display for Refusal {
     ghost output = { λ x. Some (codes "refused, number " ++ decimal (refusal_number x)) };
 
     fn fmt<W: fmt::Write>(&self, f: &mut fmt::Formatter<W>) -> fmt::Result {
-        let number = self.number();
+        let number = u8::from(*self);
         write!(f, "refused, number {number}")
     }
 }

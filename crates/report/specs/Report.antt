@@ -38,7 +38,7 @@ text_by Halted last = codes "halt" ␣ decimal last.count
 text_by PcOutside last = stop_text last
 text_by Illegal last = stop_text last
 text_by DataOutside last = stop_text last
-text_by (Denied half violation) last = stop_text last
+text_by (Denied denial) last = stop_text last
 text_by Running last = codes "spent" ␣ decimal last.count
 
 -- the line that ends a run, by its last record

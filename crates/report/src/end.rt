@@ -4,6 +4,7 @@ ghost use Rattle.report.specs.Report.{end_text, stop_text};
 use machine::{Cause, Record};
 use std::alloc::{AllocError, Global};
 
+// No `Display` of a record: the same record has another text where it shows a word.
 /// The line that ends a run, by its last record: `halt N`, `spent N` or `stop C P H V N`.
 pub fn end_line(heap: Global, last: &Record) -> Result<String, AllocError>
     ensures { IfOk result (λ s. string_bytes s ≡ end_text last.now) }

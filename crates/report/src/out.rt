@@ -12,10 +12,9 @@ pub fn out_line(heap: Global, entry: &Record) -> Result<Option<String>, AllocErr
     ensures line { IfOk result (λ line. option_map string_bytes line ≡ out_text entry.now) }
     ensures silent { IfNone (word_shown entry.now) (result ≡ Ok None) }
 {
-    match shown(entry) {
-        Some(word) => Ok(Some(format!(in heap; "out {word}")?)),
-        None => Ok(None),
-    }
+    shown(entry)
+        .map(|word| format!(in heap; "out {word}"))
+        .transpose()
 }
 
 fn shown(entry: &Record) -> Option<u32>

@@ -8,7 +8,5 @@ use std::alloc::{AllocError, Global};
 pub fn refused_line(heap: Global, fault: LoadFault) -> Result<String, AllocError>
     ensures { IfOk result (λ s. string_bytes s ≡ refused_text fault) }
 {
-    let number = fault.refusal().number();
-    let place = fault.place();
-    format!(in heap; "refused {number} {place}")
+    fault.to_string(heap)
 }

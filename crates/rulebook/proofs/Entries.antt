@@ -1,47 +1,25 @@
 -- Lists of entries: what is found in them, also after one more.
-use Rattle.std.proofs.Common.{◌≡◌, ℕ, ◌+◌, ◌<◌, Bool, true, false, not, ltb, List, [], ◌∷◌, ◌++◌, length, get_or, drop, is_some, Some, None, Option, sym, refl, ap, ◌∙◌, subst, arith}
-use Rattle.std.proofs.lemmas.List.{at_drop_more}
+use Rattle.std.proofs.Common.{◌≡◌, ℕ, Bool, true, false, cond, not, ltb, List, [], ◌∷◌, ◌++◌, length, is_some, Some, None, Ok, Option, sym, refl, subst, arith}
+use Rattle.std.specs.Option.{option_or}
 use Rattle.std.proofs.lemmas.Bool.{and_parts, both_ways}
-use Rattle.rulebook.specs.declared.answer.Answer.{Answer}
-use Rattle.rulebook.specs.declared.answer.Answer.TheVariants.{Allowed}
 use Rattle.rulebook.specs.declared.entry.Entry.{Entry}
 use Rattle.rulebook.specs.declared.question.Question.{Question}
+use Rattle.rulebook.specs.Answer.{Answer}
 use Rattle.rulebook.specs.Question.{same}
-use Rattle.rulebook.specs.Entry.{if_same, recall, distinct, if_room, with_room, if_recalled, cached, capacity}
-use Rattle.rulebook.proofs.Questions.{same_true, same_self, same_false}
-
--- A search that has passed the first `i` entries: the next one is found, or passed too.
-module _ (entries : List Entry) (i : ℕ) (d : Entry) (q : Question) (here : i < length entries) (far : recall entries q ≡ recall (drop i entries) q) where
-  pub found : (get_or entries i d).question ≡ q → recall entries q ≡ Some (get_or entries i d)
-  found e =
-      far ∙ at_drop_more (λ l. recall l q) entries i d here
-      ∙ ap (λ t. if_same t (get_or entries i d) (recall (drop (i + 1) entries) q)) (subst (λ z. same (get_or entries i d).question z ≡ true) e (same_self (get_or entries i d).question))
-
-  pub passed : ((get_or entries i d).question ≡ q → ⊥) → recall entries q ≡ recall (drop (i + 1) entries) q
-  passed n =
-      far ∙ at_drop_more (λ l. recall l q) entries i d here
-      ∙ ap (λ t. if_same t (get_or entries i d) (recall (drop (i + 1) entries) q)) (go (same (get_or entries i d).question q) refl)
-    where
-      go : (t : Bool) → same (get_or entries i d).question q ≡ t → t ≡ false
-      go true e = absurd (n (same_true _ _ e))
-      go false e = refl
-
-or_else : Option Entry → Option Entry → Option Entry
-or_else (Some entry) other = Some entry
-or_else None other = other
+use Rattle.rulebook.specs.Entry.{recall, distinct, if_room, with_room, if_recalled, cached, capacity}
+use Rattle.rulebook.proofs.Questions.{same_true, same_false}
 
 recall_push : (entries : List Entry) (e : Entry) (q : Question) →
-    recall (entries ++ e ∷ []) q ≡ or_else (recall entries q) (if_same (same e.question q) e None)
-unfolding or_else
+    recall (entries ++ e ∷ []) q ≡ option_or (recall entries q) (cond (same e.question q) (Some e) None)
 recall_push [] e q = refl
 recall_push (x ∷ entries) e q = go (same x.question q) (recall_push entries e q)
   where
-    go : (t : Bool) → recall (entries ++ e ∷ []) q ≡ or_else (recall entries q) (if_same (same e.question q) e None) →
-        if_same t x (recall (entries ++ e ∷ []) q) ≡ or_else (if_same t x (recall entries q)) (if_same (same e.question q) e None)
+    go : (t : Bool) → recall (entries ++ e ∷ []) q ≡ option_or (recall entries q) (cond (same e.question q) (Some e) None) →
+        cond t (Some x) (recall (entries ++ e ∷ []) q) ≡ option_or (cond t (Some x) (recall entries q)) (cond (same e.question q) (Some e) None)
     go true rest = refl
     go false rest = rest
 
-missed : (t : Bool) (x : Entry) (o : Option Entry) → if_same t x o ≡ None → (t ≡ false) × (o ≡ None)
+missed : (t : Bool) (x : Entry) (o : Option Entry) → cond t (Some x) o ≡ None → (t ≡ false) × (o ≡ None)
 missed true x o e = absurd (let z : ◌≡◌ {A = ℕ} 0 1 = cc in let w : ⊥ = omega arith in w)
 missed false x o e = (refl, e)
 
@@ -51,7 +29,6 @@ is_none None e = refl
 
 -- one entry more, of a question that had none
 pub distinct_push : (entries : List Entry) (e : Entry) → distinct entries ≡ true → recall entries e.question ≡ None → distinct (entries ++ e ∷ []) ≡ true
-unfolding or_else
 distinct_push [] e d n = refl
 distinct_push (x ∷ entries) e d n =
     let parts = and_parts (not (is_some (recall entries x.question))) (distinct entries) d in
@@ -62,19 +39,18 @@ distinct_push (x ∷ entries) e d n =
 
 -- what is remembered of a question changes nothing, where it is what stands below
 pub cached_push : (entries : List Entry) (e : Entry) (below : Question → Answer) (p : Question) →
-    recall entries e.question ≡ None → below e.question ≡ Allowed e.pc e.r →
+    recall entries e.question ≡ None → below e.question ≡ Ok e.tags →
     cached (entries ++ e ∷ []) below p ≡ cached entries below p
-unfolding or_else
 cached_push entries e below p n a = rw (recall_push entries e p) (go (recall entries p) (same e.question p) refl)
   where
-    go : (o : Option Entry) (t : Bool) → same e.question p ≡ t → if_recalled (or_else o (if_same t e None)) (below p) ≡ if_recalled o (below p)
+    go : (o : Option Entry) (t : Bool) → same e.question p ≡ t → if_recalled (option_or o (cond t (Some e) None)) (below p) ≡ if_recalled o (below p)
     go (Some f) t s = refl
-    go None true s = sym (subst (λ z. below z ≡ Allowed e.pc e.r) (same_true e.question p s) a)
+    go None true s = sym (subst (λ z. below z ≡ Ok e.tags) (same_true e.question p s) a)
     go None false s = refl
 
 -- the same, where there may be no room
 pub cached_room : (entries : List Entry) (e : Entry) (below : Question → Answer) (p : Question) →
-    recall entries e.question ≡ None → below e.question ≡ Allowed e.pc e.r →
+    recall entries e.question ≡ None → below e.question ≡ Ok e.tags →
     cached (with_room entries e) below p ≡ cached entries below p
 cached_room entries e below p n a = go (ltb (length entries) capacity)
   where

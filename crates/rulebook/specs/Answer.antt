@@ -1,27 +1,28 @@
 -- Answers: the number of each half, and what a narrow rulebook may answer.
-use Rattle.std.specs.Prelude.{ℕ, ◌≤◌}
+use Rattle.std.specs.Prelude.{ℕ, ◌≤◌, Ok, Err, Result}
 use Rattle.rulebook.specs.declared.answer.Half.{Half}
 use Rattle.rulebook.specs.declared.answer.Half.TheVariants as half
-use Rattle.rulebook.specs.declared.answer.Answer.{Answer}
-use Rattle.rulebook.specs.declared.answer.Answer.TheVariants as wide
-use Rattle.rulebook.specs.declared.answer.NarrowAnswer.{NarrowAnswer}
-use Rattle.rulebook.specs.declared.answer.NarrowAnswer.TheVariants as narrow
+use Rattle.rulebook.specs.declared.answer.Tags.{Tags}
+use Rattle.rulebook.specs.declared.answer.Denial.{Denial}
 
 abbrev pub half_number : Half → ℕ
 half_number half.Alone = 0
 half_number half.Lower = 1
 half_number half.Upper = 2
 
--- the tags of an answer that allows are so
-abbrev pub WhereAllowed : NarrowAnswer → (ℕ → ℕ → Type 0) → Type 0
-WhereAllowed (narrow.Allowed pc r) P = P pc r
-WhereAllowed (narrow.Denied violation) P = Unit {0}
+-- the tags that are allowed, or why not
+abbrev pub Answer : Type 0
+Answer = Result Tags Denial
+
+-- allowed, with the tags that the program counter and the result then have
+abbrev pub allowed : {V : Type 0} → ℕ → ℕ → Result Tags V
+allowed pc r = Ok (record { pc = pc; r = r })
 
 -- tags of 16 bits
-abbrev pub NarrowTags : ℕ → ℕ → Type 0
-NarrowTags pc r = (pc ≤ 65535) × (r ≤ 65535)
+abbrev pub IsNarrow : Tags → Type 0
+IsNarrow tags = (tags.pc ≤ 65535) × (tags.r ≤ 65535)
 
--- what a narrow rulebook answers, said by a rulebook that is no pair
-abbrev pub alone : NarrowAnswer → Answer
-alone (narrow.Allowed pc r) = wide.Allowed pc r
-alone (narrow.Denied violation) = wide.Denied half.Alone violation
+-- what a narrow rulebook answers, said by one half of a rulebook: its violation then is a number
+abbrev pub by_half : {V : Type 0} → (V → ℕ) → Half → Result Tags V → Answer
+by_half number half (Ok tags) = Ok tags
+by_half number half (Err violation) = Err (record { half = half; violation = number violation })

@@ -1,19 +1,13 @@
 -- What a cache remembers, as a list of entries, the oldest first.
-use Rattle.std.specs.Prelude.{ℕ, Bool, true, false, not, ◌&&◌, List, [], ◌∷◌, ◌++◌, length, is_some, Some, None, Option, nat_lt}
-use Rattle.rulebook.specs.declared.answer.Answer.{Answer}
-use Rattle.rulebook.specs.declared.answer.Answer.TheVariants.{Allowed, Denied}
+use Rattle.std.specs.Prelude.{ℕ, Bool, true, false, not, find, ◌&&◌, List, [], ◌∷◌, ◌++◌, length, is_some, Some, None, Ok, Err, Option, nat_lt}
 use Rattle.rulebook.specs.declared.entry.Entry.{Entry}
 use Rattle.rulebook.specs.declared.question.Question.{Question}
+use Rattle.rulebook.specs.Answer.{Answer}
 use Rattle.rulebook.specs.Question.{same}
-
-abbrev pub if_same : Bool → Entry → Option Entry → Option Entry
-if_same true entry others = Some entry
-if_same false entry others = others
 
 -- the entry of a question
 abbrev pub recall : List Entry → Question → Option Entry
-recall [] q = None
-recall (entry ∷ entries) q = if_same (same entry.question q) entry (recall entries q)
+recall entries q = find (λ entry. same entry.question q) entries
 
 -- no question has two entries
 abbrev pub distinct : List Entry → Bool
@@ -37,11 +31,11 @@ if_new None entries entry = with_room entries entry
 
 -- what is remembered once a question was answered
 abbrev pub taught : List Entry → Question → Answer → List Entry
-taught entries q (Allowed pc r) = if_new (recall entries q) entries (record { question = q; pc = pc; r = r })
-taught entries q (Denied half violation) = entries
+taught entries q (Ok tags) = if_new (recall entries q) entries (record { question = q; tags = tags })
+taught entries q (Err denial) = entries
 
 abbrev pub if_recalled : Option Entry → Answer → Answer
-if_recalled (Some entry) below = Allowed entry.pc entry.r
+if_recalled (Some entry) below = Ok entry.tags
 if_recalled None below = below
 
 -- what is remembered, else what stands below

@@ -4,3 +4,4 @@ pub mod Entry
 pub mod Group
 pub mod Pair
 pub mod Question
+pub mod Same

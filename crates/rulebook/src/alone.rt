@@ -1,8 +1,9 @@
 ghost use Rattle.std.specs.Prelude.{◌≡◌};
 ghost use Rattle.rulebook.specs.declared.question.Question.{Question};
-ghost use Rattle.rulebook.specs.Answer.{alone};
+ghost use Rattle.rulebook.specs.declared.answer.Half.TheVariants as half;
+ghost use Rattle.rulebook.specs.Answer.{by_half as answered};
 
-use super::answer::{Answer, Half, NarrowAnswer};
+use super::answer::{Answer, Half, by_half};
 use super::interface::{Narrow, Rulebook};
 use super::question::Question;
 
@@ -13,19 +14,13 @@ pub struct Alone<N> {
 }
 
 impl<N: Narrow> Rulebook for Alone<N> {
-    ghost meaning = { λ s q. alone (N.Narrow.rules s.rules q) };
+    ghost meaning = { λ s q. answered N.Violation.numbered half.Alone (N.Narrow.rules s.rules q) };
 
     fn ask(&mut self, q: Question) -> Answer
-        ensures answers { result ≡ alone (N.Narrow.rules self.old.rules q) }
-        ensures keeps { (p : Question) → alone (N.Narrow.rules self.new.rules p) ≡ alone (N.Narrow.rules self.old.rules p) }
+        ensures answers { result ≡ answered N.Violation.numbered half.Alone (N.Narrow.rules self.old.rules q) }
+        ensures keeps { (p : Question) → answered N.Violation.numbered half.Alone (N.Narrow.rules self.new.rules p) ≡ answered N.Violation.numbered half.Alone (N.Narrow.rules self.old.rules p) }
         ensures same { self.new ≡ self.old }
     {
-        match self.rules.decide(q) {
-            NarrowAnswer::Allowed { pc, r } => Answer::Allowed { pc, r },
-            NarrowAnswer::Denied { violation } => Answer::Denied {
-                half: Half::Alone,
-                violation,
-            },
-        }
+        by_half(Half::Alone, self.rules.decide(q))
     }
 }

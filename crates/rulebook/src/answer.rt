@@ -1,5 +1,7 @@
-ghost use Rattle.std.specs.Prelude.{◌≡◌};
-ghost use Rattle.rulebook.specs.Answer.{half_number};
+ghost use Rattle.std.specs.Prelude.{◌≡◌, Result};
+ghost use Rattle.rulebook.specs.Answer.{half_number, by_half};
+
+use super::violation::Violation;
 
 /// Which part of a rulebook denied.
 #[derive(Clone, Copy, PartialEq, Eq, Debug)]
@@ -12,24 +14,38 @@ pub enum Half {
     Upper = 2,
 }
 
-impl Half {
-    pub fn number(self) -> u8
-        ensures { result ≡ half_number self }
-    {
-        self as u8
+impl From<Half> for u8 {
+    ghost from_gives = { λ half number. number ≡ half_number half };
+
+    fn from(half: Half) -> u8 {
+        half as u8
     }
 }
 
-/// The tags that the program counter and the result then have, or why not.
-#[derive(Clone, Copy, PartialEq, Eq, Debug)]
-pub enum Answer {
-    Allowed { pc: u32, r: u32 },
-    Denied { half: Half, violation: u8 },
+/// The tags that the program counter and the result then have.
+#[derive(Clone, Copy, PartialEq, Eq, Debug, Default)]
+pub struct Tags {
+    pub pc: u32,
+    pub r: u32,
 }
 
-/// What a narrow rulebook answers: it cannot tell which half it is.
+/// Which part of a rulebook denied, and the number of its violation: a number, since rulebooks of any violations stand behind
+/// one interface, and each numbers its own.
 #[derive(Clone, Copy, PartialEq, Eq, Debug)]
-pub enum NarrowAnswer {
-    Allowed { pc: u32, r: u32 },
-    Denied { violation: u8 },
+pub struct Denial {
+    pub half: Half,
+    pub violation: u8,
+}
+
+/// What a rulebook answers.
+pub type Answer = Result<Tags, Denial>;
+
+// What a narrow rulebook answers, said by one half of a rulebook.
+pub(crate) fn by_half<V: Violation>(half: Half, answer: Result<Tags, V>) -> Answer
+    ensures { result ≡ by_half V.numbered half answer }
+{
+    answer.map_err(|violation| Denial {
+        half,
+        violation: violation.number(),
+    })
 }

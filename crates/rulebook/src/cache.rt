@@ -1,7 +1,8 @@
-ghost use Rattle.std.specs.Prelude.{◌≡◌, ◌≤◌, true, length, take};
-ghost use Rattle.rulebook.specs.Entry.{capacity, distinct};
+ghost use Rattle.std.specs.Prelude.{◌≡◌, true};
+ghost use Rattle.rulebook.specs.Entry.{distinct};
 
 use super::entry::Entry;
+use arrayvec::ArrayVec;
 
 mod asking;
 
@@ -9,12 +10,9 @@ pub use asking::Cache;
 
 const CAPACITY: usize = 64;
 
-// What a cache remembers: the first `used` entries, the oldest first; no question has two.
+// What a cache remembers, the oldest first; no question has two entries.
 #[derive(Drop)]
 struct Table {
-    entries: [Entry; CAPACITY],
-    used: usize,
-    ghost sized: { length entries ≡ capacity },
-    ghost within: { used ≤ capacity },
-    ghost distinct: { distinct (take used entries) ≡ true },
+    entries: ArrayVec<Entry, CAPACITY>,
+    ghost distinct: { distinct entries.items ≡ true },
 }

@@ -1,9 +1,9 @@
+use super::answer::Tags;
 use super::question::Question;
 
-/// An allowed answer, remembered under its question.
-#[derive(Clone, Copy, Debug)]
+/// The tags that were allowed, remembered under their question.
+#[derive(Clone, Copy, Debug, Default)]
 pub struct Entry {
     pub question: Question,
-    pub pc: u32,
-    pub r: u32,
+    pub tags: Tags,
 }

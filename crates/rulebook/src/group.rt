@@ -1,12 +1,13 @@
-ghost use Rattle.std.specs.Prelude.{◌≡◌, ◌<◌, Decides, MatchOption, ◌==◌};
-ghost use Rattle.rulebook.specs.Group.{number_of};
-ghost use Rattle.std.specs.Cmp.Rules.{comparing};
-ghost use Rattle.std.proofs.Common.{rules};
-ghost use Rattle.std.specs.Ordering.{on};
+ghost use Rattle.std.specs.Prelude.{◌≡◌, ◌++◌, Some, codes, decimal};
+ghost use Rattle.rulebook.specs.Group.{GroupOf, number_of};
+
+use std::error::Error;
+use std::fmt;
 
 /// What is asked about: an op of the machine, the fetch of an instruction, or a word posted from outside.
-#[derive(Clone, Copy, Debug)]
+#[derive(Clone, Copy, PartialEq, Eq, Debug, Default)]
 pub enum Group {
+    #[default]
     Halt = 0,
     Const = 1,
     Move = 2,
@@ -27,55 +28,65 @@ pub enum Group {
     Post = 17,
 }
 
-impl Group {
-    pub fn number(self) -> u8
-        ensures { result ≡ number_of self }
-    {
-        self as u8
-    }
-
-    /// The group of a number, absent above 17.
-    pub fn from_number(number: u32) -> Option<Group>
-        ensures { MatchOption result (17 < number) (λ g. number_of g ≡ number) }
-    {
-        match number {
-            0 => Some(Group::Halt),
-            1 => Some(Group::Const),
-            2 => Some(Group::Move),
-            3 => Some(Group::Add),
-            4 => Some(Group::Sub),
-            5 => Some(Group::And),
-            6 => Some(Group::Xor),
-            7 => Some(Group::Shl),
-            8 => Some(Group::Less),
-            9 => Some(Group::Load),
-            10 => Some(Group::Store),
-            11 => Some(Group::Jump),
-            12 => Some(Group::Branch),
-            13 => Some(Group::Call),
-            14 => Some(Group::Ret),
-            15 => Some(Group::Out),
-            16 => Some(Group::Fetch),
-            17 => Some(Group::Post),
-            _ => None,
-        }
-    }
-}
-
-// Written out, to promise that `==` says whether two groups are one and the same.
-impl PartialEq for Group {
-    ghost eq = { on number_of ◌==◌ };
-
-    ghost laws = { Prim.search (comparing, rules) };
-
-    fn eq(&self, other: &Group) -> bool
-        ensures gives { result ≡ on number_of ◌==◌ self.now other.now }
-        ensures decides { Decides result (self.now ≡ other.now) }
-    {
-        self.number() == other.number()
-    }
-}
-
+// `==` says whether two groups are one and the same, and so is an equivalence.
+#[derived]
 impl Eq for Group {
-    ghost laws = { Prim.search (comparing, rules) };
+    ghost use Rattle.std.specs.Cmp.{decided};
+    ghost use Rattle.rulebook.specs.Same.{same_group_decides};
+
+    ghost laws = { decided _ same_group_decides };
 }
+
+/// A number that no group has.
+#[derive(Clone, Copy, PartialEq, Eq, Debug)]
+pub struct UnknownGroup(pub u32);
+
+impl From<Group> for u8 {
+    ghost from_gives = { λ group number. number ≡ number_of group };
+
+    fn from(group: Group) -> u8 {
+        group as u8
+    }
+}
+
+impl TryFrom<u32> for Group {
+    type Error = UnknownGroup;
+
+    ghost try_from_gives = { GroupOf };
+
+    fn try_from(number: u32) -> Result<Group, UnknownGroup> {
+        let group = match number {
+            0 => Group::Halt,
+            1 => Group::Const,
+            2 => Group::Move,
+            3 => Group::Add,
+            4 => Group::Sub,
+            5 => Group::And,
+            6 => Group::Xor,
+            7 => Group::Shl,
+            8 => Group::Less,
+            9 => Group::Load,
+            10 => Group::Store,
+            11 => Group::Jump,
+            12 => Group::Branch,
+            13 => Group::Call,
+            14 => Group::Ret,
+            15 => Group::Out,
+            16 => Group::Fetch,
+            17 => Group::Post,
+            _ => return Err(UnknownGroup(number)),
+        };
+        Ok(group)
+    }
+}
+
+impl fmt::Display for UnknownGroup {
+    ghost output = { λ e. Some (codes "no group has number " ++ decimal e.0) };
+
+    fn fmt<W: fmt::Write>(&self, f: &mut fmt::Formatter<W>) -> fmt::Result {
+        let number = self.0;
+        write!(f, "no group has number {number}")
+    }
+}
+
+impl Error for UnknownGroup {}

@@ -1,11 +1,11 @@
-ghost use Rattle.std.specs.Prelude.{◌≡◌};
+ghost use Rattle.std.specs.Prelude.{◌≡◌, IfOk, Result};
 ghost use Rattle.rulebook.specs.declared.question.Question.{Question};
-ghost use Rattle.rulebook.specs.declared.answer.Answer.{Answer};
-ghost use Rattle.rulebook.specs.declared.answer.NarrowAnswer.{NarrowAnswer};
-ghost use Rattle.rulebook.specs.Answer.{WhereAllowed, NarrowTags};
+ghost use Rattle.rulebook.specs.declared.answer.Tags.{Tags};
+ghost use Rattle.rulebook.specs.Answer.{Answer, IsNarrow};
 
-use super::answer::{Answer, NarrowAnswer};
+use super::answer::{Answer, Tags};
 use super::question::Question;
+use super::violation::Violation;
 
 /// A rulebook means one answer for every question.  Asking may change what it holds, as a cache
 /// does, and never what it means.
@@ -19,10 +19,12 @@ pub trait Rulebook {
 
 /// A rulebook whose tags have 16 bits, so that two of them can share a tag of 32.
 pub trait Narrow {
-    ghost rules: { Self → Question → NarrowAnswer };
+    type Violation: Violation;
 
-    fn decide(&self, q: Question) -> NarrowAnswer
+    ghost rules: { Self → Question → Result Tags Self.Violation };
+
+    fn decide(&self, q: Question) -> Result<Tags, Self::Violation>
         ensures answers { result ≡ rules self.now q };
 
-    ghost narrow: { (n : Self) (q : Question) → WhereAllowed (rules n q) NarrowTags };
+    ghost narrow: { (n : Self) (q : Question) → IfOk (rules n q) IsNarrow };
 }

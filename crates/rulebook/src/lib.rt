@@ -12,10 +12,10 @@ mod question;
 mod violation;
 
 pub use alone::Alone;
-pub use answer::{Answer, Half, NarrowAnswer};
+pub use answer::{Answer, Denial, Half, Tags};
 pub use cache::Cache;
 pub use entry::Entry;
-pub use group::Group;
+pub use group::{Group, UnknownGroup};
 pub use interface::{Narrow, Rulebook};
 pub use pair::Pair;
 pub use question::Question;

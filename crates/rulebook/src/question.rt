@@ -1,11 +1,10 @@
-ghost use Rattle.std.specs.Prelude.{◌≡◌, Decides};
-ghost use Rattle.rulebook.specs.Question.{each, low, high, same, same_laws};
-ghost use Rattle.std.specs.Cmp.{partial_equiv_from_equiv};
+ghost use Rattle.std.specs.Prelude.{◌≡◌};
+ghost use Rattle.rulebook.specs.Question.{each, low, high};
 
 use super::group::Group;
 
 /// A group and five tags: of the program counter, the instruction's cell, two sources and the memory cell.
-#[derive(Clone, Copy, Debug)]
+#[derive(Clone, Copy, PartialEq, Eq, Debug, Default)]
 pub struct Question {
     pub group: Group,
     pub pc: u32,
@@ -15,54 +14,46 @@ pub struct Question {
     pub m: u32,
 }
 
+// `==` says whether two questions are one and the same, and so is an equivalence.
+#[derived]
+impl Eq for Question {
+    ghost use Rattle.std.specs.Cmp.{decided};
+    ghost use Rattle.rulebook.specs.Same.{same_question_decides};
+
+    ghost laws = { decided _ same_question_decides };
+}
+
 impl Question {
     /// The same question with the low 16 bits of each tag.
     pub fn lower(self) -> Question
         ensures { result ≡ each low self }
     {
-        Question {
-            group: self.group,
-            pc: self.pc % 65536,
-            ci: self.ci % 65536,
-            a: self.a % 65536,
-            b: self.b % 65536,
-            m: self.m % 65536,
-        }
+        self.each(|tag| tag % 65536)
     }
 
     /// The same question with the high 16 bits of each tag.
     pub fn upper(self) -> Question
         ensures { result ≡ each high self }
     {
+        self.each(|tag| tag >> 16)
+    }
+
+    fn each<F: Fn(u32) -> u32>(self, part: F) -> Question
+        requires { F.IsAlwaysCallable part }
+        ensures group { result.group ≡ self.group }
+        ensures pc { F.post part self.pc result.pc }
+        ensures ci { F.post part self.ci result.ci }
+        ensures a { F.post part self.a result.a }
+        ensures b { F.post part self.b result.b }
+        ensures m { F.post part self.m result.m }
+    {
         Question {
             group: self.group,
-            pc: self.pc >> 16,
-            ci: self.ci >> 16,
-            a: self.a >> 16,
-            b: self.b >> 16,
-            m: self.m >> 16,
+            pc: part(self.pc),
+            ci: part(self.ci),
+            a: part(self.a),
+            b: part(self.b),
+            m: part(self.m),
         }
     }
-}
-
-impl PartialEq for Question {
-    ghost eq = { same };
-
-    ghost laws = { partial_equiv_from_equiv same_laws };
-
-    fn eq(&self, other: &Question) -> bool
-        ensures gives { result ≡ same self.now other.now }
-        ensures decides { Decides result (self.now ≡ other.now) }
-    {
-        self.group == other.group
-            && self.pc == other.pc
-            && self.ci == other.ci
-            && self.a == other.a
-            && self.b == other.b
-            && self.m == other.m
-    }
-}
-
-impl Eq for Question {
-    ghost laws = { same_laws };
 }

@@ -66,8 +66,5 @@ fn run<R: Rulebook>(
     ensures loan { loan journal.new ≡ loan journal.old }
     ensures keeps { Unaltered (R.Rulebook.meaning rules.old) (R.Rulebook.meaning rules.new) }
 {
-    match live.run(cells, registers, rules, BUDGET, journal) {
-        Ok(ran) => ran,
-        Err(_) => unreachable(),
-    }
+    live.run(cells, registers, rules, BUDGET, journal).unwrap()
 }

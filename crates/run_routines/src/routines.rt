@@ -8,7 +8,7 @@ pub const CELLS: usize = 16;
 /// The word and the tag of each cell.
 pub type Routine = [(u32, u32); CELLS];
 
-// The tags of cells, as Depth Isolation reads them.
+// The tags of cells, as Depth Isolation reads them. Numbers, since a routine may have the tags of any rulebook.
 const PLAIN: u32 = 0;
 
 const EMPTY: u32 = 1;
@@ -67,12 +67,5 @@ pub const PRIES: Routine = [
 pub fn cells_of(routine: Routine) -> [Cell; CELLS]
     ensures { result ≡ cells_of routine }
 {
-    let mut cells = [Cell::BLANK; CELLS];
-    for (place, (word, tag)) in routine.iter().enumerate() {
-        cells[place] = Cell {
-            word: *word,
-            tag: *tag,
-        };
-    }
-    cells
+    routine.map(|(word, tag)| Cell { word, tag })
 }

@@ -1,9 +1,7 @@
 -- Questions and answers as lines of text.
-use Rattle.std.specs.Prelude.{◌≡◌, ℕ, List, [], ◌∷◌, ◌++◌, Some, codes, decimal}
-use Rattle.rulebook.specs.declared.answer.Answer.{Answer}
-use Rattle.rulebook.specs.declared.answer.Answer.TheVariants.{Allowed, Denied}
+use Rattle.std.specs.Prelude.{◌≡◌, ℕ, List, [], ◌∷◌, ◌++◌, Some, Ok, Err, codes, decimal}
 use Rattle.rulebook.specs.declared.question.Question.{Question}
-use Rattle.rulebook.specs.Answer.{half_number}
+use Rattle.rulebook.specs.Answer.{Answer, half_number}
 use Rattle.rulebook.specs.Group.{number_of}
 use Rattle.transcript.specs.Line.{line_numbers}
 
@@ -17,5 +15,5 @@ IsQuestion line q = line_numbers line ≡ Some (numbers_of q)
 
 -- the line of an answer
 abbrev pub answer_text : Answer → List ℕ
-answer_text (Allowed pc r) = codes "allowed " ++ (decimal pc ++ (codes " " ++ decimal r))
-answer_text (Denied half violation) = codes "denied " ++ (decimal (half_number half) ++ (codes " " ++ decimal violation))
+answer_text (Ok tags) = codes "allowed " ++ (decimal tags.pc ++ (codes " " ++ decimal tags.r))
+answer_text (Err denial) = codes "denied " ++ (decimal (half_number denial.half) ++ (codes " " ++ decimal denial.violation))

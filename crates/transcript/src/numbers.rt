@@ -1,17 +1,17 @@
 ghost use Rattle.std.specs.Prelude.{◌≡◌, ◌+◌, ◌*◌, ◌^◌, ◌<◌, Some};
 ghost use Rattle.std.specs.Option.{SomeIff};
 ghost use Rattle.transcript.specs.Line.{start, with_digit, pause, feed, all, six, line_numbers, ReadsBack};
-ghost use Rattle.transcript.specs.Reading.{seen, Sound, Steps};
+ghost use Rattle.transcript.specs.Reading.{seen, Steps};
+
+use arrayvec::ArrayVec;
 
 /// How many numbers a line has.
 pub const COUNT: usize = 6;
 
-/// A line as far as it is read: the first `count` of `numbers` have ended, and
-/// `current` is the number that the last byte belongs to, if it was a digit.
-#[derive(Clone, Copy)]
+// A line as far as it is read: the numbers that have ended, and the one that the last byte belongs to, if it was a digit.
+#[derive(Drop)]
 struct Reader {
-    numbers: [u32; COUNT],
-    count: usize,
+    ended: ArrayVec<u32, COUNT>,
     current: Option<u32>,
 }
 
@@ -34,14 +34,12 @@ impl Reader {
         ensures { Steps (Some start) (Some result) }
     {
         Reader {
-            numbers: [0; COUNT],
-            count: 0,
+            ended: ArrayVec::new(),
             current: None,
         }
     }
 
     fn feed(self, byte: u8) -> Option<Reader>
-        requires { Sound self }
         ensures { Steps (feed (Some (seen self)) byte) result }
     {
         match byte {
@@ -52,7 +50,6 @@ impl Reader {
     }
 
     fn with_digit(self, digit: u8) -> Option<Reader>
-        requires { Sound self }
         ensures { Steps (Some (with_digit (seen self) digit)) result }
     {
         let current = appended(self.current.unwrap_or(0), digit)?;
@@ -64,33 +61,23 @@ impl Reader {
 
     // The number that was being read, if any, has ended.
     fn pause(self) -> Option<Reader>
-        requires { Sound self }
         ensures { Steps (Some (pause (seen self))) result }
     {
-        match self.current {
-            None => Some(self),
-            Some(number) if self.count < COUNT => {
-                let mut numbers = self.numbers;
-                numbers[self.count] = number;
-                Some(Reader {
-                    numbers,
-                    count: self.count + 1,
-                    current: None,
-                })
-            }
-            Some(_) => None,
-        }
+        let Some(number) = self.current else {
+            return Some(self);
+        };
+        let mut ended = self.ended;
+        ended.try_push(number).ok()?;
+        Some(Reader {
+            ended,
+            current: None,
+        })
     }
 
     fn finish(self) -> Option<[u32; COUNT]>
-        requires { Sound self }
         ensures { result ≡ six (Some (all (seen self))) }
     {
-        let ended = self.pause()?;
-        if ended.count < COUNT {
-            return None;
-        }
-        Some(ended.numbers)
+        self.pause()?.ended.into_inner().ok()
     }
 }
 

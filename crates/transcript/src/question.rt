@@ -17,7 +17,7 @@ fn question_of(numbers: [u32; COUNT]) -> Option<Question>
     ensures { MatchOption result ((q : Question) → numbers ≡ numbers_of q → ⊥) (λ q. numbers ≡ numbers_of q) }
 {
     let [number, pc, ci, a, b, m] = numbers;
-    let group = Group::from_number(number)?;
+    let group = Group::try_from(number).ok()?;
     Some(Question {
         group,
         pc,

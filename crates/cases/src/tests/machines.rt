@@ -1,10 +1,46 @@
 use crate::doubling_routine;
 use instruction::Instruction;
 use journal::Journal;
-use machine::{Cell, End, Live, REGISTERS, Record, Refused, Stepped};
+use machine::{Cell, End, Live, REGISTERS, Ran, Record, Refused, Stepped};
 use policies::DepthIsolation;
+use refusal::Refusal;
 use rulebook::Alone;
 use std::test::Fail;
+
+// What a machine is lent: cells, registers that are blank at first, and Depth Isolation.
+#[derive(Drop)]
+struct Board {
+    cells: [Cell; 16],
+    registers: [Cell; REGISTERS],
+    rules: Alone<DepthIsolation>,
+}
+
+impl Board {
+    fn over(cells: [Cell; 16]) -> Board {
+        Board {
+            cells,
+            registers: [Cell::BLANK; REGISTERS],
+            rules: Alone {
+                rules: DepthIsolation,
+            },
+        }
+    }
+
+    fn run(
+        &mut self,
+        live: Live,
+        budget: u32,
+        journal: &mut Journal<Record>,
+    ) -> Result<Ran, Refusal> {
+        Ok(live.run(
+            &mut self.cells,
+            &mut self.registers,
+            &mut self.rules,
+            budget,
+            journal,
+        )?)
+    }
+}
 
 #[test]
 fn each_op_is_decoded(rt: HostRuntime) -> Result<(), Fail> {
@@ -30,7 +66,7 @@ fn each_op_is_decoded(rt: HostRuntime) -> Result<(), Fail> {
         let Some(instruction) = Instruction::decode(word) else {
             return Err(Fail::new("a legal word"));
         };
-        assert_eq!(rt; u32::from(instruction.group().number()), word >> 24);
+        assert_eq!(rt; u32::from(u8::from(instruction.group())), word >> 24);
     }
     Ok(())
 }
@@ -61,12 +97,9 @@ fn words_with_a_wrong_field_are_illegal(rt: HostRuntime) {
 fn first_step(pc: u32, word: u32, tag: u32) -> Result<Record, Fail> {
     let mut cells = [Cell::BLANK; 16];
     cells[0] = Cell { word, tag };
-    let mut registers = [Cell::BLANK; REGISTERS];
-    let mut rules = Alone {
-        rules: DepthIsolation,
-    };
-    let live = Live::start(pc, 0, &cells)?;
-    match live.step(&mut cells, &mut registers, &mut rules) {
+    let mut board = Board::over(cells);
+    let live = Live::start(pc, 0, &board.cells)?;
+    match live.step(&mut board.cells, &mut board.registers, &mut board.rules) {
         Ok(Stepped { entry, next: _ }) => Ok(entry),
         Err(_) => Err(Fail::new("refused")),
     }
@@ -99,17 +132,11 @@ fn each_cause(rt: HostRuntime) -> Result<(), Fail> {
 
 #[test]
 fn the_doubling_routine_runs_as_it_was_followed(rt: HostRuntime) -> Result<(), Fail> {
-    let mut cells = doubling_routine();
-    let mut registers = [Cell::BLANK; REGISTERS];
-    let mut rules = Alone {
-        rules: DepthIsolation,
-    };
+    let mut board = Board::over(doubling_routine());
     let mut slots = [Record::BLANK; 64];
     let mut journal = Journal::over(&mut slots);
-    let live = Live::start(0, 0, &cells)?;
-    let Ok(ran) = live.run(&mut cells, &mut registers, &mut rules, 64, &mut journal) else {
-        return Err(Fail::new("refused"));
-    };
+    let live = Live::start(0, 0, &board.cells)?;
+    let ran = board.run(live, 64, &mut journal)?;
     assert_eq!(rt; ran.added, 10);
     let End::Stopped(stopped) = ran.end else {
         return Err(Fail::new("it halts"));
@@ -130,70 +157,53 @@ const ROUND: Cell = Cell {
 
 #[test]
 fn a_run_is_spent_and_then_full(rt: HostRuntime) -> Result<(), Fail> {
-    let mut cells = [ROUND; 16];
-    let mut registers = [Cell::BLANK; REGISTERS];
-    let mut rules = Alone {
-        rules: DepthIsolation,
-    };
+    let mut board = Board::over([ROUND; 16]);
     let mut slots = [Record::BLANK; 8];
     let mut journal = Journal::over(&mut slots);
-    let live = Live::start(0, 0, &cells)?;
-    let live = match live.run(&mut cells, &mut registers, &mut rules, 5, &mut journal) {
-        Ok(ran) => {
-            assert_eq!(rt; ran.added, 5);
-            let End::Spent(live) = ran.end else {
-                return Err(Fail::new("spent first"));
-            };
-            live
-        }
-        Err(_) => return Err(Fail::new("refused")),
+    let live = Live::start(0, 0, &board.cells)?;
+    let ran = board.run(live, 5, &mut journal)?;
+    assert_eq!(rt; ran.added, 5);
+    let End::Spent(live) = ran.end else {
+        return Err(Fail::new("spent first"));
     };
-    match live.run(&mut cells, &mut registers, &mut rules, 5, &mut journal) {
-        Ok(ran) => {
-            assert_eq!(rt; ran.added, 3);
-            let End::Full(live) = ran.end else {
-                return Err(Fail::new("full then"));
-            };
-            assert_eq!(rt; live.state().count, 8);
-            Ok(())
-        }
-        Err(_) => Err(Fail::new("refused")),
-    }
+    let ran = board.run(live, 5, &mut journal)?;
+    assert_eq!(rt; ran.added, 3);
+    let End::Full(live) = ran.end else {
+        return Err(Fail::new("full then"));
+    };
+    assert_eq!(rt; live.state().count, 8);
+    Ok(())
 }
 
-// The number by which a run over so many registers, with this budget, is refused, or 0.
-fn refused_by(registers: usize, budget: u32) -> Result<u8, Fail> {
-    let mut cells = [ROUND; 16];
-    let mut held = [Cell::BLANK; REGISTERS];
-    let mut rules = Alone {
-        rules: DepthIsolation,
-    };
+// The number, as a maker sees it, by which a run over so many registers, with this budget, is refused.
+fn refused_by(registers: usize, budget: u32) -> Result<Option<u8>, Fail> {
+    let mut board = Board::over([ROUND; 16]);
     let mut slots = [Record::BLANK; 1];
     let mut journal = Journal::over(&mut slots);
-    let live = Live::start(0, 0, &cells)?;
+    let live = Live::start(0, 0, &board.cells)?;
     if registers > REGISTERS {
         return Err(Fail::new("too many"));
     }
     match live.run(
-        &mut cells,
-        &mut held[0..registers],
-        &mut rules,
+        &mut board.cells,
+        &mut board.registers[..registers],
+        &mut board.rules,
         budget,
         &mut journal,
     ) {
-        Ok(_) => Ok(0),
-        Err(Refused { refusal, live: _ }) => Ok(refusal.number()),
+        Ok(_) => Ok(None),
+        Err(Refused { refusal, live: _ }) => Ok(Some(u8::from(refusal))),
     }
 }
 
 #[test]
 fn refusals_by_the_smallest_number(rt: HostRuntime) -> Result<(), Fail> {
-    assert_eq!(rt; refused_by(16, 1)?, 0);
-    assert_eq!(rt; refused_by(16, 1_000_000)?, 0);
-    assert_eq!(rt; refused_by(16, 1_000_001)?, 10);
-    assert_eq!(rt; refused_by(16, 0)?, 10);
-    assert_eq!(rt; refused_by(15, 1)?, 1);
-    assert_eq!(rt; refused_by(15, 0)?, 1);
+    assert_eq!(rt; refused_by(16, 1)?, None);
+    assert_eq!(rt; refused_by(16, 1_000_000)?, None);
+    assert_eq!(rt; refused_by(16, 1_000_001)?, Some(10));
+    assert_eq!(rt; refused_by(16, 0)?, Some(10));
+    assert_eq!(rt; refused_by(15, 1)?, Some(1));
+    assert_eq!(rt; refused_by(15, 0)?, Some(1));
     assert!(rt; Live::start(0, 0, &[Cell::BLANK; 15]).is_err());
     assert!(rt; Live::start(0, 0, &[Cell::BLANK; 16]).is_ok());
     Ok(())

@@ -1,6 +1,8 @@
 use crate::{Case, marked_cases};
 use policies::{DepthIsolation, WriteOrExecute};
-use rulebook::{Alone, Answer, Cache, Group, Half, Narrow, NarrowAnswer, Pair, Question, Rulebook};
+use rulebook::{
+    Alone, Cache, Denial, Group, Half, Narrow, Pair, Question, Rulebook, Tags, Violation,
+};
 use std::test::Fail;
 use transcript::{read_numbers, read_question};
 
@@ -8,10 +10,12 @@ use transcript::{read_numbers, read_question};
 fn marked_cases_run(rt: HostRuntime) {
     for case in marked_cases() {
         match case {
-            Case::Asked { question, answer } => assert_eq!(rt;
-                DepthIsolation.decide(question),
-                answer
-            ),
+            Case::Asked { question, answer } => {
+                let mut alone = Alone {
+                    rules: DepthIsolation,
+                };
+                assert_eq!(rt; alone.ask(question), answer);
+            }
             Case::Computed { op, x, y, result } => assert_eq!(rt; op.apply(x, y), result),
         }
     }
@@ -45,42 +49,25 @@ fn each_violation_of_depth_isolation(rt: HostRuntime) {
         (Group::Ret, [2, 16, 512, 0, 0], 10),
     ];
     for (group, tags, violation) in cases {
-        assert_eq!(rt;
-            DepthIsolation.decide(question(group, tags)),
-            NarrowAnswer::Denied { violation }
-        );
+        let answer = DepthIsolation.decide(question(group, tags));
+        assert_eq!(rt; answer.map_err(|denied| denied.number()), Err(violation));
     }
 }
 
 #[test]
 fn each_violation_of_write_or_execute(rt: HostRuntime) {
-    let allowed = NarrowAnswer::Allowed { pc: 0, r: 0 };
+    let allowed = Ok(Tags { pc: 0, r: 0 });
     let cases = [
         (Group::Load, [0, 1, 0, 0, 0], allowed),
         (Group::Post, [0, 0, 0, 0, 0], allowed),
-        (
-            Group::Load,
-            [1, 0, 0, 0, 1],
-            NarrowAnswer::Denied { violation: 1 },
-        ),
-        (
-            Group::Add,
-            [0, 1, 0, 1, 0],
-            NarrowAnswer::Denied { violation: 1 },
-        ),
-        (
-            Group::Load,
-            [0, 0, 0, 0, 1],
-            NarrowAnswer::Denied { violation: 2 },
-        ),
-        (
-            Group::Store,
-            [0, 1, 0, 0, 1],
-            NarrowAnswer::Denied { violation: 3 },
-        ),
+        (Group::Load, [1, 0, 0, 0, 1], Err(1)),
+        (Group::Add, [0, 1, 0, 1, 0], Err(1)),
+        (Group::Load, [0, 0, 0, 0, 1], Err(2)),
+        (Group::Store, [0, 1, 0, 0, 1], Err(3)),
     ];
     for (group, tags, answer) in cases {
-        assert_eq!(rt; WriteOrExecute.decide(question(group, tags)), answer);
+        let ruling = WriteOrExecute.decide(question(group, tags));
+        assert_eq!(rt; ruling.map_err(|denied| denied.number()), answer);
     }
 }
 
@@ -93,24 +80,24 @@ fn a_pair_joins_tags_and_lets_the_lower_deny_first(rt: HostRuntime) {
     let cases = [
         (
             [0x0001_0000, 0x0010_0001, 0, 0, 0],
-            Answer::Allowed {
+            Ok(Tags {
                 pc: 0x0002_0000,
                 r: 0x0201_0000,
-            },
+            }),
         ),
         (
             [0x0001_0001, 0x0000_0001, 0, 0, 0],
-            Answer::Denied {
+            Err(Denial {
                 half: Half::Lower,
                 violation: 1,
-            },
+            }),
         ),
         (
             [0x0001_0000, 0x0000_0001, 0, 0, 0],
-            Answer::Denied {
+            Err(Denial {
                 half: Half::Upper,
                 violation: 2,
-            },
+            }),
         ),
     ];
     for (tags, answer) in cases {
@@ -126,12 +113,12 @@ fn a_cache_remembers_the_first_64_different_allowed_answers(rt: HostRuntime) -> 
     for pc in 0..300 {
         let q = question(Group::Fetch, [pc, 16, 0, 0, 0]);
         let answer = if pc < 256 {
-            Answer::Allowed { pc, r: 0 }
+            Ok(Tags { pc, r: 0 })
         } else {
-            Answer::Denied {
+            Err(Denial {
                 half: Half::Alone,
                 violation: 1,
-            }
+            })
         };
         assert_eq!(rt; cache.ask(q), answer);
         assert_eq!(rt; cache.ask(q), answer);

@@ -1,13 +1,14 @@
-ghost use Rattle.std.specs.Prelude.{◌≡◌, ◌+◌, ◌*◌, ◌%◌, ◌^◌, ◌<◌, ◌≤◌, ◌&&◌, length, replicate, IfOk, Some, None, MatchResult, ◌==◌, nat_le, nat_lt, slice_set};
-ghost use Rattle.machine.specs.Cells.{blank, word_in};
-ghost use Rattle.image.specs.Bytes.{field};
-ghost use Rattle.image.specs.Content.{Reaches, Says, content_stored, words_at};
+ghost use Rattle.std.specs.Prelude.{◌≡◌, ◌+◌, ◌*◌, ◌%◌, ◌^◌, ◌<◌, ◌≤◌, ◌&&◌, length, replicate, IfOk, ◌==◌, nat_le, nat_lt, map};
+ghost use Rattle.std.specs.Result.{result_err};
+ghost use Rattle.machine.specs.Cells.{blank};
+ghost use Rattle.image.specs.Content.{Reaches, Says, content_stored, words_in};
 ghost use Rattle.image.specs.Judgement.{header_refusal, part_refusal};
-ghost use Rattle.image.specs.Part.{HeaderFits, header_section, words as words_part, tags as tags_part};
+ghost use Rattle.image.specs.Part.{HeaderFits, header_section};
 ghost use Rattle.image.specs.Reading.{Lies};
 ghost use Rattle.image.specs.Section.{marked};
-ghost use Rattle.image.specs.Stored.{stored, tagged};
+ghost use Rattle.image.specs.Stored.{tagged};
 
+use super::kind::Kind;
 use super::{HEAD, Reader, Span, u16_at, u32_at};
 use machine::Cell;
 use refusal::Refusal;
@@ -15,17 +16,6 @@ use refusal::Refusal;
 mod list;
 
 pub use list::{Loaded, cells_named, load};
-
-// The kinds of sections; from 32,768 on they are notes.
-const HEADER: u16 = 1;
-
-const WORDS: u16 = 2;
-
-const TAGS: u16 = 3;
-
-const NOTES: u16 = 32_768;
-
-const NAMES: u16 = 32_769;
 
 // An address or a size, another number of two bytes, and a tag.
 const HEADER_LENGTH: usize = 8;
@@ -42,13 +32,12 @@ struct Header {
 
 // What a later section says.
 #[derive(Clone, Copy)]
-enum Content {
-    // words from an address on; the first one's bytes stand at a place in the image
+enum Content<'i> {
+    // words from an address on, four bytes each
     Words {
         address: u16,
         tag: u32,
-        first: usize,
-        count: usize,
+        bytes: &'i [u8],
     },
     Tags {
         address: u16,
@@ -60,22 +49,28 @@ enum Content {
 }
 
 impl Span {
+    fn is_header(self) -> bool
+        ensures { result ≡ (self.kind == 1) }
+    {
+        Kind::try_from(self.kind) == Ok(Kind::Header)
+    }
+
     fn header(self, image: &[u8], size: usize) -> Result<Header, Refusal>
         requires { Lies self image.now }
-        ensures refused { MatchResult result (λ _. header_refusal size (marked image.now self) ≡ None) (λ e. header_refusal size (marked image.now self) ≡ Some e) }
+        ensures refused { result_err result ≡ header_refusal size (marked image.now self) }
         ensures says { IfOk result (λ h. (marked image.now self ≡ header_section h) × HeaderFits size h) }
     {
-        if self.kind != HEADER {
+        if !self.is_header() {
             return Err(Refusal::SectionOrder);
         }
-        if self.length != HEADER_LENGTH {
+        let body = self.body(image);
+        if body.len() != HEADER_LENGTH {
             return Err(Refusal::BodyLength);
         }
-        let body = self.place + HEAD;
         let header = Header {
-            cells: u16_at(image, body),
-            start: u16_at(image, body + 2),
-            tag: u32_at(image, body + 4),
+            cells: u16_at(body, 0),
+            start: u16_at(body, 2),
+            tag: u32_at(body, 4),
         };
         if !header.suits(size) {
             return Err(Refusal::HeaderValues);
@@ -83,63 +78,61 @@ impl Span {
         Ok(header)
     }
 
-    fn content(self, image: &[u8], size: usize) -> Result<Content, Refusal>
+    fn content(self, image: &[u8], size: usize) -> Result<Content<'_>, Refusal>
         requires { Lies self image.now }
-        ensures refused { MatchResult result (λ _. part_refusal size (marked image.now self) ≡ None) (λ e. part_refusal size (marked image.now self) ≡ Some e) }
+        ensures refused { result_err result ≡ part_refusal size (marked image.now self) }
         ensures says { IfOk result (Says size image.now self) }
     {
-        match self.kind {
-            HEADER => Err(Refusal::SectionOrder),
-            WORDS => self.words(image, size),
-            TAGS => self.tags(image, size),
-            NAMES => Ok(Content::Names),
-            kind if kind >= NOTES => Ok(Content::Note),
-            _ => Err(Refusal::SectionKind),
+        match Kind::try_from(self.kind)? {
+            Kind::Header => Err(Refusal::SectionOrder),
+            Kind::Words => self.words(image, size),
+            Kind::Tags => self.tags(image, size),
+            Kind::Names => Ok(Content::Names),
+            Kind::Note => Ok(Content::Note),
         }
     }
 
-    fn words(self, image: &[u8], size: usize) -> Result<Content, Refusal>
+    fn words(self, image: &[u8], size: usize) -> Result<Content<'_>, Refusal>
         requires lies { Lies self image.now }
         requires kind { self.kind ≡ 2 }
-        ensures refused { MatchResult result (λ _. part_refusal size (marked image.now self) ≡ None) (λ e. part_refusal size (marked image.now self) ≡ Some e) }
+        ensures refused { result_err result ≡ part_refusal size (marked image.now self) }
         ensures says { IfOk result (Says size image.now self) }
     {
-        if !holds_words(self.length) {
+        let body = self.body(image);
+        if !holds_words(body.len()) {
             return Err(Refusal::BodyLength);
         }
-        let body = self.place + HEAD;
-        let address = u16_at(image, body);
-        let count = (self.length - 6) / 4;
+        let address = u16_at(body, 0);
+        let count = (body.len() - 6) / 4;
         if passes(size, address, count) {
             return Err(Refusal::PastCells);
         }
         Ok(Content::Words {
             address,
-            tag: u32_at(image, body + 2),
-            first: body + 6,
-            count,
+            tag: u32_at(body, 2),
+            bytes: &body[6..],
         })
     }
 
-    fn tags(self, image: &[u8], size: usize) -> Result<Content, Refusal>
+    fn tags(self, image: &[u8], size: usize) -> Result<Content<'_>, Refusal>
         requires lies { Lies self image.now }
         requires kind { self.kind ≡ 3 }
-        ensures refused { MatchResult result (λ _. part_refusal size (marked image.now self) ≡ None) (λ e. part_refusal size (marked image.now self) ≡ Some e) }
+        ensures refused { result_err result ≡ part_refusal size (marked image.now self) }
         ensures says { IfOk result (Says size image.now self) }
     {
-        if self.length != TAGS_LENGTH {
+        let body = self.body(image);
+        if body.len() != TAGS_LENGTH {
             return Err(Refusal::BodyLength);
         }
-        let body = self.place + HEAD;
-        let address = u16_at(image, body);
-        let count = u16_at(image, body + 2);
+        let address = u16_at(body, 0);
+        let count = u16_at(body, 2);
         if passes(size, address, usize::from(count)) {
             return Err(Refusal::PastCells);
         }
         Ok(Content::Tags {
             address,
             count,
-            tag: u32_at(image, body + 4),
+            tag: u32_at(body, 4),
         })
     }
 }
@@ -167,78 +160,60 @@ fn passes(size: usize, address: u16, count: usize) -> bool
     usize::from(address) + count > size
 }
 
-impl Content {
+impl Content<'_> {
     // Does what the section says to the cells; names are no concern of theirs.
-    fn store(self, image: &[u8], cells: &mut [Cell])
-        requires { Reaches (length cells.old) (length image.now) self }
-        ensures { cells.new ≡ content_stored image.now self cells.old }
+    fn store(self, cells: &mut [Cell])
+        requires { Reaches (length cells.old) self }
+        ensures { cells.new ≡ content_stored self.entry cells.old }
     {
         match self {
             Content::Words {
                 address,
                 tag,
-                first,
-                count,
-            } => store_words(image, cells, usize::from(address), tag, first, count),
+                bytes,
+            } => {
+                let start = usize::from(address);
+                store_words(&mut cells[start..start + bytes.len() / 4], bytes, tag);
+            }
             Content::Tags {
                 address,
                 count,
                 tag,
-            } => store_tags(cells, usize::from(address), usize::from(count), tag),
+            } => {
+                let start = usize::from(address);
+                store_tags(&mut cells[start..start + usize::from(count)], tag);
+            }
             Content::Names => {}
             Content::Note => {}
         }
     }
 }
 
-fn store_words(
-    image: &[u8],
-    cells: &mut [Cell],
-    address: usize,
-    tag: u32,
-    first: usize,
-    count: usize,
-)
-    requires there { address + count ≤ length cells.old }
-    requires within { first + 4 * count ≤ length image.now }
-    ensures { cells.new ≡ stored (words_part address tag (words_at image.now first count)) cells.old }
+// Sets each cell to a word of four bytes, with one tag. By the index, since the library says nothing of cells lent by a `zip`
+// over `iter_mut`.
+fn store_words(cells: &mut [Cell], bytes: &[u8], tag: u32)
+    requires { 4 * length cells.old ≤ length bytes.now }
+    ensures { cells.new ≡ map (tagged tag) (words_in (length cells.old) bytes.now) }
 {
-    for i in 0..count {
-        store_word(image, cells, address + i, tag, first + 4 * i);
+    for (i, cell) in cells.iter_mut().enumerate() {
+        *cell = Cell {
+            word: u32_at(bytes, 4 * i),
+            tag,
+        };
     }
 }
 
-fn store_word(image: &[u8], cells: &mut [Cell], address: usize, tag: u32, place: usize)
-    requires there { address < length cells.old }
-    requires within { place + 4 ≤ length image.now }
-    ensures { cells.new ≡ slice_set cells.old address (tagged tag (field 4 place image.now)) }
+// The words stay.
+fn store_tags(cells: &mut [Cell], tag: u32)
+    ensures { cells.new ≡ map (λ cell. tagged tag cell.word) cells.old }
 {
-    cells[address] = Cell {
-        word: u32_at(image, place),
-        tag,
-    };
-}
-
-fn store_tags(cells: &mut [Cell], address: usize, count: usize, tag: u32)
-    requires { address + count ≤ length cells.old }
-    ensures { cells.new ≡ stored (tags_part address count tag) cells.old }
-{
-    for i in 0..count {
-        store_tag(cells, address + i, tag);
+    for cell in cells.iter_mut() {
+        cell.tag = tag;
     }
-}
-
-fn store_tag(cells: &mut [Cell], address: usize, tag: u32)
-    requires { address < length cells.old }
-    ensures { cells.new ≡ slice_set cells.old address (tagged tag (word_in cells.old address)) }
-{
-    cells[address].tag = tag;
 }
 
 fn clear(cells: &mut [Cell])
     ensures { cells.new ≡ replicate (length cells.old) blank }
 {
-    for cell in cells.iter_mut() {
-        *cell = Cell::BLANK;
-    }
+    cells.fill(Cell::BLANK);
 }

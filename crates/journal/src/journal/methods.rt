@@ -1,7 +1,6 @@
-ghost use Rattle.std.specs.Prelude.{◌≡◌, ◌<◌, [], ◌∷◌, ◌++◌, length, drop, IfErr};
-ghost use Rattle.std.specs.List.{slice_get};
+ghost use Rattle.std.specs.Prelude.{◌≡◌, ◌<◌, [], ◌∷◌, ◌++◌, length, drop, option_copied, slice_get, IfErr};
 ghost use Rattle.refusal.specs.Refusal.{refusal_number};
-ghost use Rattle.journal.specs.Journal.{appended, behind, elements, free, full, loan, next_place, room};
+ghost use Rattle.journal.specs.Journal.{appended, elements, free, full, loan, next_place, room};
 
 use super::Journal;
 use refusal::Refusal;
@@ -40,22 +39,20 @@ impl<'a, T> Journal<'a, T> {
     pub fn elements(&self) -> &[T]
         ensures { result.now ≡ elements self.now }
     {
-        let slots = &*self.slots;
-        &slots[..self.used]
+        &self.slots[..self.used]
     }
 
     /// The element at a place, the oldest at 0; absent from the count on.
     pub fn read(&self, place: usize) -> Option<&T>
-        ensures { behind result ≡ slice_get (elements self.now) place }
+        ensures { option_copied result ≡ slice_get (elements self.now) place }
     {
-        at(self.elements(), place)
+        self.elements().get(place)
     }
 
     fn room(&self) -> &[T]
         ensures { result.now ≡ room self.now }
     {
-        let slots = &*self.slots;
-        &slots[self.used..]
+        &self.slots[self.used..]
     }
 }
 
@@ -71,25 +68,9 @@ impl<'a, T: Drop> Journal<'a, T> {
         if self.is_full() {
             return Err(Refusal::JournalFull);
         }
-        let place = self.count();
-        self.push(element);
+        let place = self.used;
+        self.slots[place] = element;
+        self.used += 1;
         Ok(place)
     }
-
-    fn push(&mut self, element: T)
-        requires { 0 < free self.old }
-        ensures elements { elements self.new ≡ elements self.old ++ element ∷ [] }
-        ensures room { room self.new ≡ drop 1 (room self.old) }
-        ensures loan { loan self.new ≡ loan self.old }
-    {
-        self.slots[self.used] = element;
-        self.used += 1;
-    }
-}
-
-// What `get` promises, said by `slice_get`.
-fn at<T>(held: &[T], place: usize) -> Option<&T>
-    ensures { behind result ≡ slice_get held.now place }
-{
-    held.get(place)
 }

@@ -1,20 +1,16 @@
-ghost use Rattle.std.specs.Prelude.{◌≡◌, ◌<◌, true, length, OnErr, nat_lt};
-ghost use Rattle.instruction.specs.Instruction.{Fits};
-ghost use Rattle.machine.specs.Calls.{Sized};
+ghost use Rattle.std.specs.Prelude.{◌≡◌, ◌<◌, cond, true, length, Ok, Err, OnErr, nat_lt};
+ghost use Rattle.refusal.specs.declared.refusal.Refusal.TheVariants.{Sizes};
+ghost use Rattle.machine.specs.Calls.{fitting};
 ghost use Rattle.machine.specs.Effect.{Reaches, address_in};
-ghost use Rattle.machine.specs.Step.{Performs, Unaltered, asks, performed, judged, op_question, within as ranged, obeyed, looked_at, fetch_question as fetching, inside as insides, step as stepping};
+ghost use Rattle.machine.specs.Step.{Unaltered, asks, performed, judged, within as ranged, obeyed, looked_at, fetch_question as fetching, inside as insides, step as stepping};
 ghost use Rattle.machine.specs.StepCall.{StepCall};
-ghost use Rattle.machine.specs.StepLaw.{StepLaw};
 
-use super::{
-    Access, Asked, Fetched, cell_at, evaluate, finish, put, reach, sources, stop, unasked,
-};
+use super::{Access, Asked, Fetched, Legal, Machine, unasked};
 use crate::cell::Cell;
 use crate::records::Cause;
 use crate::state::{Live, Refused, State, Stepped, fits};
-use instruction::Instruction;
 use refusal::Refusal;
-use rulebook::{Answer, Group, Question, Rulebook};
+use rulebook::{Group, Question, Rulebook, Tags};
 
 mod run;
 
@@ -30,68 +26,168 @@ impl Live {
         ensures spares { OnErr result (rules.new ≡ rules.old) }
         ensures keeps { Unaltered (R.Rulebook.meaning rules.old) (R.Rulebook.meaning rules.new) }
     {
-        if !fits(self.state, cells, registers) {
-            return Err(Refused {
+        let live = self.sized(cells, registers)?;
+        let mut machine = Machine {
+            state: live.state,
+            cells,
+            registers,
+            rules,
+        };
+        Ok(machine.step())
+    }
+
+    // The machine where cells and registers are as many as it needs, and else handed back.
+    fn sized(self, cells: &[Cell], registers: &[Cell]) -> Result<Live, Refused>
+        ensures { result ≡ cond (fitting self.state cells.now registers.now) (Ok self) (Err (record { refusal = Sizes; live = self })) }
+    {
+        if fits(self.state, cells, registers) {
+            Ok(self)
+        } else {
+            Err(Refused {
                 refusal: Refusal::Sizes,
                 live: self,
-            });
+            })
         }
-        Ok(lawful(self.state, cells, registers, rules))
     }
 }
 
-// A step, with the law that it obeys.
-fn lawful<R: Rulebook>(
-    state: State,
-    cells: &mut [Cell],
-    registers: &mut [Cell],
-    rules: &mut R,
-) -> Stepped
-    requires sized { Sized state cells.old registers.old }
-    ensures performs { Performs (stepping (R.Rulebook.meaning rules.old) state registers.old) cells.old result cells.new registers.new }
-    ensures lawful { StepLaw (R.Rulebook.meaning rules.old) state cells.old registers.old result cells.new registers.new }
-    ensures keeps { Unaltered (R.Rulebook.meaning rules.old) (R.Rulebook.meaning rules.new) }
-{
-    advance(state, cells, registers, rules)
-}
+// The phases of a step.
+impl<'m, R: Rulebook> Machine<'m, R> {
+    ghost use Rattle.machine.specs.StepLaw.{StepLaw};
+    ghost use Rattle.machine.specs.Work.{Works};
 
-fn advance<R: Rulebook>(
-    state: State,
-    cells: &mut [Cell],
-    registers: &mut [Cell],
-    rules: &mut R,
-) -> Stepped
-    requires sized { Sized state cells.old registers.old }
-    ensures performs { Performs (stepping (R.Rulebook.meaning rules.old) state registers.old) cells.old result cells.new registers.new }
-    ensures keeps { Unaltered (R.Rulebook.meaning rules.old) (R.Rulebook.meaning rules.new) }
-{
-    if state.pc >= state.size {
-        return stop(state, 0, 0, unasked(Group::Fetch, 0), Cause::PcOutside);
+    // A step, with the law that it obeys.
+    fn step(&mut self) -> Stepped
+        ensures works { Works R.Rulebook.meaning stepping self.old result self.new }
+        ensures lawful { StepLaw (R.Rulebook.meaning self.old.rules.now) self.old.state self.old.cells.now self.old.registers.now result self.new.cells.now self.new.registers.now }
+    {
+        self.advance()
     }
-    fetch(state, cells, registers, rules)
-}
 
-fn fetch<R: Rulebook>(
-    state: State,
-    cells: &mut [Cell],
-    registers: &mut [Cell],
-    rules: &mut R,
-) -> Stepped
-    requires sized { Sized state cells.old registers.old }
-    requires inside { state.pc < state.size }
-    ensures performs { Performs (insides (R.Rulebook.meaning rules.old) state registers.old true) cells.old result cells.new registers.new }
-    ensures keeps { Unaltered (R.Rulebook.meaning rules.old) (R.Rulebook.meaning rules.new) }
-{
-    let ci = cell_at(cells, state.pc).tag;
-    match rules.ask(fetch_question(state.tag, ci)) {
-        Answer::Denied { half, violation } => stop(
-            state,
-            0,
-            0,
-            unasked(Group::Fetch, ci),
-            Cause::Denied { half, violation },
-        ),
-        Answer::Allowed { pc: tag, r: _ } => read(state, cells, registers, rules, ci, tag),
+    fn advance(&mut self) -> Stepped
+        ensures works { Works R.Rulebook.meaning stepping self.old result self.new }
+    {
+        if self.state.pc >= self.state.size {
+            return self.stop(0, 0, unasked(Group::Fetch, 0), Cause::PcOutside);
+        }
+        self.fetch()
+    }
+
+    fn fetch(&mut self) -> Stepped
+        requires inside { self.old.state.pc < self.old.state.size }
+        ensures works { Works R.Rulebook.meaning (λ μ state registers. insides μ state registers true) self.old result self.new }
+    {
+        let State { pc, tag, .. } = self.state;
+        let ci = self.cell(pc).tag;
+        match self.rules.ask(fetch_question(tag, ci)) {
+            Ok(tags) => self.read(ci, tags.pc),
+            Err(denial) => self.stop(0, 0, unasked(Group::Fetch, ci), Cause::Denied(denial)),
+        }
+    }
+
+    // What follows an allowed fetch: only now is the word looked at.
+    fn read(&mut self, ci: u32, fetched_tag: u32) -> Stepped
+        requires inside { self.old.state.pc < self.old.state.size }
+        ensures works { Works R.Rulebook.meaning (λ μ state registers. looked_at μ state registers ci fetched_tag) self.old result self.new }
+    {
+        let pc = self.state.pc;
+        let word = self.cell(pc).word;
+        match Legal::decode(word) {
+            None => self.stop(word, 0, unasked(Group::Fetch, ci), Cause::Illegal),
+            Some(instruction) => {
+                let fetched = Fetched {
+                    ci,
+                    tag: fetched_tag,
+                    word,
+                    instruction,
+                };
+                self.obey(fetched)
+            }
+        }
+    }
+
+    fn obey(&mut self, fetched: Fetched) -> Stepped
+        ensures works { Works R.Rulebook.meaning (λ μ state registers. obeyed μ state registers fetched) self.old result self.new }
+    {
+        let access = self.reach(fetched.instruction);
+        match access {
+            Access::Nothing => {
+                let asked = self.ask(fetched, access, 0);
+                self.judge(asked)
+            }
+            Access::Load { .. } | Access::Store { .. } => self.within(fetched, access),
+        }
+    }
+
+    fn within(&mut self, fetched: Fetched, access: Access) -> Stepped
+        ensures works { Works R.Rulebook.meaning (λ μ state registers. ranged μ state registers fetched access (nat_lt (address_in access) state.size)) self.old result self.new }
+    {
+        let address = access.address();
+        if address >= self.state.size {
+            return self.stop(
+                fetched.word,
+                address,
+                unasked(fetched.instruction.group(), fetched.ci),
+                Cause::DataOutside,
+            );
+        }
+        let m = self.cell(address).tag;
+        let asked = self.ask(fetched, access, m);
+        self.judge(asked)
+    }
+
+    // The question of an op is asked with the pc tag that the fetch left.
+    fn ask(&self, fetched: Fetched, access: Access, m: u32) -> Asked
+        ensures { result ≡ asks fetched self.now.registers.now access m }
+    {
+        let (a, b) = self.sources(fetched.instruction);
+        let question = Question {
+            group: fetched.instruction.group(),
+            pc: fetched.tag,
+            ci: fetched.ci,
+            a,
+            b,
+            m,
+        };
+        Asked {
+            word: fetched.word,
+            instruction: fetched.instruction,
+            access,
+            question,
+        }
+    }
+
+    fn judge(&mut self, asked: Asked) -> Stepped
+        requires there { Reaches asked.access (length self.old.cells.now) }
+        ensures works { Works R.Rulebook.meaning (λ μ state registers. judged μ state registers asked) self.old result self.new }
+    {
+        match self.rules.ask(asked.question) {
+            Ok(Tags { pc, r }) => self.perform(asked, pc, r),
+            Err(denial) => self.stop(
+                asked.word,
+                asked.access.address(),
+                asked.question,
+                Cause::Denied(denial),
+            ),
+        }
+    }
+
+    fn perform(&mut self, asked: Asked, tag: u32, r: u32) -> Stepped
+        requires there { Reaches asked.access (length self.old.cells.now) }
+        ensures works { Works R.Rulebook.meaning (λ _ state registers. performed state registers asked tag r asked.access) self.old result self.new }
+    {
+        match asked.access {
+            Access::Nothing => self.finish(asked, 0, tag, r),
+            Access::Load { address } => {
+                let loaded = self.cell(address).word;
+                self.finish(asked, loaded, tag, r)
+            }
+            Access::Store { address } => {
+                let word = self.evaluate(asked.instruction, 0).result;
+                self.cells[address as usize] = Cell { word, tag: r };
+                self.finish(asked, 0, tag, r)
+            }
+        }
     }
 }
 
@@ -99,185 +195,7 @@ fn fetch_question(tag: u32, ci: u32) -> Question
     ensures { result ≡ fetching tag ci }
 {
     Question {
-        group: Group::Fetch,
         pc: tag,
-        ci,
-        a: 0,
-        b: 0,
-        m: 0,
-    }
-}
-
-// What follows an allowed fetch: only now is the word looked at.
-fn read<R: Rulebook>(
-    state: State,
-    cells: &mut [Cell],
-    registers: &mut [Cell],
-    rules: &mut R,
-    ci: u32,
-    fetched_tag: u32,
-) -> Stepped
-    requires sized { Sized state cells.old registers.old }
-    requires inside { state.pc < state.size }
-    ensures performs { Performs (looked_at (R.Rulebook.meaning rules.old) state registers.old ci fetched_tag) cells.old result cells.new registers.new }
-    ensures keeps { Unaltered (R.Rulebook.meaning rules.old) (R.Rulebook.meaning rules.new) }
-{
-    let word = cell_at(cells, state.pc).word;
-    match Instruction::decode(word) {
-        None => stop(state, word, 0, unasked(Group::Fetch, ci), Cause::Illegal),
-        Some(instruction) => {
-            let fetched = Fetched {
-                ci,
-                tag: fetched_tag,
-                word,
-                instruction,
-            };
-            obey(state, cells, registers, rules, fetched)
-        }
-    }
-}
-
-fn obey<R: Rulebook>(
-    state: State,
-    cells: &mut [Cell],
-    registers: &mut [Cell],
-    rules: &mut R,
-    fetched: Fetched,
-) -> Stepped
-    requires fits { Fits fetched.instruction }
-    requires sized { Sized state cells.old registers.old }
-    ensures performs { Performs (obeyed (R.Rulebook.meaning rules.old) state registers.old fetched) cells.old result cells.new registers.new }
-    ensures keeps { Unaltered (R.Rulebook.meaning rules.old) (R.Rulebook.meaning rules.new) }
-{
-    let access = reach(fetched.instruction, registers);
-    match access {
-        Access::Nothing => {
-            let asked = ask(fetched, registers, access, 0);
-            judge(state, cells, registers, rules, asked)
-        }
-        Access::Load { address } => within(
-            state, cells, registers, rules, fetched, access, address,
-        ),
-        Access::Store { address } => within(
-            state, cells, registers, rules, fetched, access, address,
-        ),
-    }
-}
-
-fn within<R: Rulebook>(
-    state: State,
-    cells: &mut [Cell],
-    registers: &mut [Cell],
-    rules: &mut R,
-    fetched: Fetched,
-    access: Access,
-    address: u32,
-) -> Stepped
-    requires fits { Fits fetched.instruction }
-    requires sized { Sized state cells.old registers.old }
-    requires at { address ≡ address_in access }
-    ensures performs { Performs (ranged (R.Rulebook.meaning rules.old) state registers.old fetched access (nat_lt address state.size)) cells.old result cells.new registers.new }
-    ensures keeps { Unaltered (R.Rulebook.meaning rules.old) (R.Rulebook.meaning rules.new) }
-{
-    if address >= state.size {
-        return stop(
-            state,
-            fetched.word,
-            address,
-            unasked(fetched.instruction.group(), fetched.ci),
-            Cause::DataOutside,
-        );
-    }
-    let m = cell_at(cells, address).tag;
-    let asked = ask(fetched, registers, access, m);
-    judge(state, cells, registers, rules, asked)
-}
-
-fn ask(fetched: Fetched, registers: &[Cell], access: Access, m: u32) -> Asked
-    requires fits { Fits fetched.instruction }
-    requires sixteen { length registers.now ≡ 16 }
-    ensures { result ≡ asks fetched registers.now access m }
-{
-    Asked {
-        word: fetched.word,
-        instruction: fetched.instruction,
-        access,
-        question: question(fetched, registers, m),
-    }
-}
-
-// The question of an op, asked with the pc tag that the fetch left.
-fn question(fetched: Fetched, registers: &[Cell], m: u32) -> Question
-    requires fits { Fits fetched.instruction }
-    requires sixteen { length registers.now ≡ 16 }
-    ensures { result ≡ op_question fetched registers.now m }
-{
-    let (a, b) = sources(fetched.instruction, registers);
-    Question {
-        group: fetched.instruction.group(),
-        pc: fetched.tag,
-        ci: fetched.ci,
-        a,
-        b,
-        m,
-    }
-}
-
-fn judge<R: Rulebook>(
-    state: State,
-    cells: &mut [Cell],
-    registers: &mut [Cell],
-    rules: &mut R,
-    asked: Asked,
-) -> Stepped
-    requires fits { Fits asked.instruction }
-    requires sixteen { length registers.old ≡ 16 }
-    requires there { Reaches asked.access (length cells.old) }
-    ensures performs { Performs (judged (R.Rulebook.meaning rules.old) state registers.old asked) cells.old result cells.new registers.new }
-    ensures keeps { Unaltered (R.Rulebook.meaning rules.old) (R.Rulebook.meaning rules.new) }
-{
-    match rules.ask(asked.question) {
-        Answer::Denied { half, violation } => stop(
-            state,
-            asked.word,
-            asked.access.address(),
-            asked.question,
-            Cause::Denied { half, violation },
-        ),
-        Answer::Allowed { pc, r } => perform(state, cells, registers, asked, pc, r),
-    }
-}
-
-fn perform(
-    state: State,
-    cells: &mut [Cell],
-    registers: &mut [Cell],
-    asked: Asked,
-    tag: u32,
-    r: u32,
-) -> Stepped
-    requires fits { Fits asked.instruction }
-    requires sixteen { length registers.old ≡ 16 }
-    requires there { Reaches asked.access (length cells.old) }
-    ensures { Performs (performed state registers.old asked tag r asked.access) cells.old result cells.new registers.new }
-{
-    match asked.access {
-        Access::Nothing => finish(state, registers, asked, 0, tag, r),
-        Access::Load { address } => {
-            let loaded = cell_at(cells, address).word;
-            finish(state, registers, asked, loaded, tag, r)
-        }
-        Access::Store { address } => {
-            let stored = evaluate(asked.instruction, state.pc, 0, registers).result;
-            put(
-                cells,
-                address,
-                Cell {
-                    word: stored,
-                    tag: r,
-                },
-            );
-            finish(state, registers, asked, 0, tag, r)
-        }
+        ..unasked(Group::Fetch, ci)
     }
 }

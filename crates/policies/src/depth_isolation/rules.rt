@@ -1,5 +1,5 @@
-ghost use Rattle.std.specs.Prelude.{◌≡◌, ◌+◌, ◌==◌};
-ghost use Rattle.rulebook.specs.declared.answer.NarrowAnswer.TheVariants.{Allowed};
+ghost use Rattle.std.specs.Prelude.{◌≡◌, ◌+◌, ◌==◌, Result};
+ghost use Rattle.rulebook.specs.Answer.{allowed};
 ghost use Rattle.policies.specs.DepthLaw.{Lawful};
 ghost use Rattle.policies.specs.DepthTag.{cell_tag, register_tag};
 ghost use Rattle.policies.specs.DepthIsolation.{on_move as moving, reach as reaching, on_load as loading, on_call as calling, on_ret as returning, on_post as posting, plain_store, frame_store, ordinary_store, claiming_store, clearing_store, on_store as storing, on_op as ruled, depth_isolation};
@@ -7,19 +7,24 @@ ghost use Rattle.std.proofs.Common.{rules};
 
 use super::tags::{CellTag, Code, RegisterTag};
 use super::violation::DepthViolation;
-use rulebook::{Group, Narrow, NarrowAnswer, Question, Violation};
+use rulebook::{Group, Narrow, Question, Tags};
 
 /// Keeps each call depth's frame apart from every other's.  It has no state: an answer depends on
 /// the question alone.
 #[derive(Clone, Copy, Debug)]
 pub struct DepthIsolation;
 
+// The tags that the rules allow, or why not.
+type Ruling = Result<Tags, DepthViolation>;
+
 impl Narrow for DepthIsolation {
+    type Violation = DepthViolation;
+
     ghost rules = { λ _. depth_isolation };
 
     ghost narrow = { Prim.search rules };
 
-    fn decide(&self, q: Question) -> NarrowAnswer
+    fn decide(&self, q: Question) -> Ruling
         ensures answers { result ≡ depth_isolation q }
         ensures lawful { Lawful q result }
     {
@@ -27,30 +32,28 @@ impl Narrow for DepthIsolation {
     }
 }
 
-// What the rules say of a question, with the laws that this obeys.
-fn judged(q: Question) -> NarrowAnswer
+// What the rules say of a question, with the laws that this obeys: the lemma is cited here, so that a wrong `decide` is
+// refused at its contract.
+fn judged(q: Question) -> Ruling
     ensures answers { result ≡ depth_isolation q }
     ensures lawful { Lawful q result }
 {
     judge(q)
 }
 
-fn judge(q: Question) -> NarrowAnswer
+fn judge(q: Question) -> Ruling
     ensures { result ≡ depth_isolation q }
 {
     let Ok(depth) = u8::try_from(q.pc) else {
-        return DepthViolation::NoDepth.denied();
+        return Err(DepthViolation::NoDepth);
     };
     if q.group == Group::Post {
         return on_post(depth, q.m);
     }
-    match Code::of(q.ci) {
-        Some(code) => on_op(depth, code, q),
-        None => DepthViolation::NotCode.denied(),
-    }
+    on_op(depth, Code::try_from(q.ci)?, q)
 }
 
-fn on_op(depth: u8, code: Code, q: Question) -> NarrowAnswer
+fn on_op(depth: u8, code: Code, q: Question) -> Ruling
     requires { q.pc ≡ depth }
     ensures { result ≡ ruled q code q.group }
 {
@@ -59,28 +62,26 @@ fn on_op(depth: u8, code: Code, q: Question) -> NarrowAnswer
         Group::Load => on_load(depth, q.m),
         Group::Store => on_store(depth, code, q),
         Group::Call => on_call(depth),
-        Group::Ret => on_ret(depth, RegisterTag::of(q.a)),
-        _ => allowed(depth, 0),
+        Group::Ret => on_ret(depth, q.a),
+        _ => allow(depth, 0),
     }
 }
 
-// Allowed, and the depth stays.
-fn allowed(depth: u8, r: u32) -> NarrowAnswer
-    ensures { result ≡ Allowed depth r }
+// Allowed; this is the depth from then on.
+fn allow(depth: u8, r: u32) -> Ruling
+    ensures { result ≡ allowed depth r }
 {
-    NarrowAnswer::Allowed {
+    Ok(Tags {
         pc: u32::from(depth),
         r,
-    }
+    })
 }
 
-fn on_move(depth: u8, a: u32) -> NarrowAnswer
+fn on_move(depth: u8, a: u32) -> Ruling
     ensures { result ≡ moving depth a }
 {
-    match RegisterTag::of(a) {
-        Some(_) => allowed(depth, a),
-        None => DepthViolation::UnknownTag.denied(),
-    }
+    let _ = RegisterTag::try_from(a)?;
+    allow(depth, a)
 }
 
 // What a load or an ordinary store may reach: a plain cell, or one of its own depth's frame.
@@ -94,36 +95,29 @@ enum Target {
 fn reach(depth: u8, m: u32) -> Result<Target, DepthViolation>
     ensures { result ≡ reaching depth (cell_tag m) }
 {
-    match CellTag::of(m) {
-        Some(CellTag::Plain) => Ok(Target::Plain),
-        Some(CellTag::Frame(d)) if d == depth => Ok(Target::Frame),
-        Some(CellTag::SavedLink(d)) if d == depth => Ok(Target::SavedLink),
-        Some(CellTag::Frame(_) | CellTag::SavedLink(_)) => Err(DepthViolation::ForeignCell),
-        Some(CellTag::Empty) => Err(DepthViolation::EmptyCell),
-        Some(CellTag::Code(_)) => Err(DepthViolation::CodeCell),
-        None => Err(DepthViolation::UnknownTag),
+    match CellTag::try_from(m)? {
+        CellTag::Plain => Ok(Target::Plain),
+        CellTag::Frame(d) if d == depth => Ok(Target::Frame),
+        CellTag::SavedLink(d) if d == depth => Ok(Target::SavedLink),
+        CellTag::Frame(_) | CellTag::SavedLink(_) => Err(DepthViolation::ForeignCell),
+        CellTag::Empty => Err(DepthViolation::EmptyCell),
+        CellTag::Code(_) => Err(DepthViolation::CodeCell),
     }
 }
 
-fn on_load(depth: u8, m: u32) -> NarrowAnswer
+fn on_load(depth: u8, m: u32) -> Ruling
     ensures { result ≡ loading depth (reaching depth (cell_tag m)) }
 {
-    match reach(depth, m) {
-        Ok(Target::Plain | Target::Frame) => allowed(depth, 0),
-        Ok(Target::SavedLink) => allowed(
-            depth,
-            RegisterTag::Link(depth.saturating_sub(1)).number(),
-        ),
-        Err(violation) => violation.denied(),
+    match reach(depth, m)? {
+        Target::Plain | Target::Frame => allow(depth, 0),
+        Target::SavedLink => allow(depth, RegisterTag::Link(depth.saturating_sub(1)).into()),
     }
 }
 
-fn on_store(depth: u8, code: Code, q: Question) -> NarrowAnswer
+fn on_store(depth: u8, code: Code, q: Question) -> Ruling
     ensures { result ≡ storing depth code (register_tag q.a) q.m }
 {
-    let Some(source) = RegisterTag::of(q.a) else {
-        return DepthViolation::UnknownTag.denied();
-    };
+    let source = RegisterTag::try_from(q.a)?;
     match code {
         Code::Ordinary => store_ordinary(depth, source, q.m),
         Code::Claiming => claim(depth, source, q.m),
@@ -131,54 +125,52 @@ fn on_store(depth: u8, code: Code, q: Question) -> NarrowAnswer
     }
 }
 
-fn store_ordinary(depth: u8, source: RegisterTag, m: u32) -> NarrowAnswer
+fn store_ordinary(depth: u8, source: RegisterTag, m: u32) -> Ruling
     ensures { result ≡ ordinary_store depth source (reaching depth (cell_tag m)) }
 {
-    match reach(depth, m) {
-        Ok(Target::Plain) => store_in_plain(depth, source),
-        Ok(Target::Frame | Target::SavedLink) => store_in_frame(depth, source),
-        Err(violation) => violation.denied(),
+    match reach(depth, m)? {
+        Target::Plain => store_in_plain(depth, source),
+        Target::Frame | Target::SavedLink => store_in_frame(depth, source),
     }
 }
 
-fn claim(depth: u8, source: RegisterTag, m: u32) -> NarrowAnswer
+fn claim(depth: u8, source: RegisterTag, m: u32) -> Ruling
     ensures { result ≡ claiming_store depth source m }
 {
-    if m == CellTag::Empty.number() {
+    if m == u32::from(CellTag::Empty) {
         store_in_frame(depth, source)
     } else {
-        DepthViolation::NotEmpty.denied()
+        Err(DepthViolation::NotEmpty)
     }
 }
 
-fn clear(depth: u8, m: u32) -> NarrowAnswer
+fn clear(depth: u8, m: u32) -> Ruling
     ensures { result ≡ clearing_store depth (reaching depth (cell_tag m)) }
 {
     match reach(depth, m) {
-        Ok(Target::Frame | Target::SavedLink) => allowed(depth, CellTag::Empty.number()),
-        Ok(Target::Plain) | Err(_) => DepthViolation::ForeignCell.denied(),
+        Ok(Target::Frame | Target::SavedLink) => allow(depth, CellTag::Empty.into()),
+        Ok(Target::Plain) | Err(_) => Err(DepthViolation::ForeignCell),
     }
 }
 
-fn store_in_plain(depth: u8, source: RegisterTag) -> NarrowAnswer
+fn store_in_plain(depth: u8, source: RegisterTag) -> Ruling
     ensures { result ≡ plain_store depth source }
 {
     match source {
-        RegisterTag::Data => allowed(depth, CellTag::Plain.number()),
-        RegisterTag::Link(_) => DepthViolation::StrayLink.denied(),
+        RegisterTag::Data => allow(depth, CellTag::Plain.into()),
+        RegisterTag::Link(_) => Err(DepthViolation::StrayLink),
     }
 }
 
-fn store_in_frame(depth: u8, source: RegisterTag) -> NarrowAnswer
+fn store_in_frame(depth: u8, source: RegisterTag) -> Ruling
     ensures { result ≡ frame_store depth source }
 {
     match source {
-        RegisterTag::Data => allowed(depth, CellTag::Frame(depth).number()),
-        RegisterTag::Link(made) if leads_back(made, depth) => allowed(
-            depth,
-            CellTag::SavedLink(depth).number(),
-        ),
-        RegisterTag::Link(_) => DepthViolation::StrayLink.denied(),
+        RegisterTag::Data => allow(depth, CellTag::Frame(depth).into()),
+        RegisterTag::Link(made) if leads_back(made, depth) => {
+            allow(depth, CellTag::SavedLink(depth).into())
+        }
+        RegisterTag::Link(_) => Err(DepthViolation::StrayLink),
     }
 }
 
@@ -189,30 +181,30 @@ fn leads_back(made: u8, depth: u8) -> bool
     made < depth && depth - made == 1
 }
 
-fn on_call(depth: u8) -> NarrowAnswer
+fn on_call(depth: u8) -> Ruling
     ensures { result ≡ calling depth }
 {
     match depth.checked_add(1) {
-        Some(below) => allowed(below, RegisterTag::Link(depth).number()),
-        None => DepthViolation::TooDeep.denied(),
+        Some(below) => allow(below, RegisterTag::Link(depth).into()),
+        None => Err(DepthViolation::TooDeep),
     }
 }
 
-fn on_ret(depth: u8, a: Option<RegisterTag>) -> NarrowAnswer
-    ensures { result ≡ returning depth a }
+fn on_ret(depth: u8, a: u32) -> Ruling
+    ensures { result ≡ returning depth (register_tag a) }
 {
-    match a {
-        Some(RegisterTag::Link(made)) if leads_back(made, depth) => allowed(made, 0),
-        _ => DepthViolation::NoReturn.denied(),
+    match RegisterTag::try_from(a) {
+        Ok(RegisterTag::Link(made)) if leads_back(made, depth) => allow(made, 0),
+        _ => Err(DepthViolation::NoReturn),
     }
 }
 
-fn on_post(depth: u8, m: u32) -> NarrowAnswer
+fn on_post(depth: u8, m: u32) -> Ruling
     ensures { result ≡ posting depth m }
 {
-    if m == CellTag::Plain.number() {
-        allowed(depth, 0)
+    if m == u32::from(CellTag::Plain) {
+        allow(depth, 0)
     } else {
-        DepthViolation::ForeignCell.denied()
+        Err(DepthViolation::ForeignCell)
     }
 }

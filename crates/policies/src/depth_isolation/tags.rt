@@ -1,8 +1,11 @@
-ghost use Rattle.std.specs.Prelude.{◌≡◌, MatchOption, ◌≢◌};
+ghost use Rattle.std.specs.Prelude.{◌≡◌, MatchResult, ok_or, ◌≢◌};
 ghost use Rattle.policies.specs.declared.depth_isolation.tags.CellTag.{CellTag};
 ghost use Rattle.policies.specs.declared.depth_isolation.tags.RegisterTag.{RegisterTag};
 ghost use Rattle.policies.specs.declared.depth_isolation.tags.Code.{Code};
+ghost use Rattle.policies.specs.declared.depth_isolation.violation.DepthViolation.TheVariants.{NotCode, UnknownTag};
 ghost use Rattle.policies.specs.DepthTag.{Proper, ProperRegister, code_tag, code_number, cell_tag, cell_number, register_tag, register_number};
+
+use super::violation::DepthViolation;
 
 /// What a code cell may do beside being fetched.
 #[derive(Clone, Copy, PartialEq, Eq, Debug)]
@@ -34,24 +37,29 @@ pub enum RegisterTag {
     Link(u8),
 }
 
-impl Code {
-    /// The kind of code of a cell's tag, absent where that is no code.
-    pub fn of(number: u32) -> Option<Code>
-        ensures kind { result ≡ code_tag number }
-        ensures numbered { MatchOption result ((code : Code) → code_number code ≢ number) (λ code. code_number code ≡ number) }
+impl TryFrom<u32> for Code {
+    type Error = DepthViolation;
+
+    ghost try_from_gives = { λ number r. r ≡ ok_or (code_tag number) NotCode };
+
+    fn try_from(number: u32) -> Result<Code, DepthViolation>
+        ensures kind { result ≡ ok_or (code_tag number) NotCode }
+        ensures numbered { MatchResult result (λ code. code_number code ≡ number) (λ _. (code : Code) → code_number code ≢ number) }
     {
         match number {
-            16 => Some(Code::Ordinary),
-            17 => Some(Code::Claiming),
-            18 => Some(Code::Clearing),
-            _ => None,
+            16 => Ok(Code::Ordinary),
+            17 => Ok(Code::Claiming),
+            18 => Ok(Code::Clearing),
+            _ => Err(DepthViolation::NotCode),
         }
     }
+}
 
-    pub fn number(self) -> u32
-        ensures { result ≡ code_number self }
-    {
-        match self {
+impl From<Code> for u32 {
+    ghost from_gives = { λ code number. number ≡ code_number code };
+
+    fn from(code: Code) -> u32 {
+        match code {
             Code::Ordinary => 16,
             Code::Claiming => 17,
             Code::Clearing => 18,
@@ -59,54 +67,64 @@ impl Code {
     }
 }
 
-impl CellTag {
-    /// The tag of a number, absent where the number is no cell's tag.
-    pub fn of(number: u32) -> Option<CellTag>
-        ensures tag { result ≡ cell_tag number }
-        ensures numbered { MatchOption result ((tag : CellTag) → Proper tag → cell_number tag ≢ number) (λ tag. Proper tag × (cell_number tag ≡ number)) }
+impl TryFrom<u32> for CellTag {
+    type Error = DepthViolation;
+
+    ghost try_from_gives = { λ number r. r ≡ ok_or (cell_tag number) UnknownTag };
+
+    fn try_from(number: u32) -> Result<CellTag, DepthViolation>
+        ensures tag { result ≡ ok_or (cell_tag number) UnknownTag }
+        ensures numbered { MatchResult result (λ tag. Proper tag × (cell_number tag ≡ number)) (λ _. (tag : CellTag) → Proper tag → cell_number tag ≢ number) }
     {
-        if let Some(code) = Code::of(number) {
-            return Some(CellTag::Code(code));
+        if let Ok(code) = Code::try_from(number) {
+            return Ok(CellTag::Code(code));
         }
         match number {
-            0 => Some(CellTag::Plain),
-            1 => Some(CellTag::Empty),
-            256..=511 => Some(CellTag::Frame((number - 256) as u8)),
-            769..=1023 => Some(CellTag::SavedLink((number - 768) as u8)),
-            _ => None,
+            0 => Ok(CellTag::Plain),
+            1 => Ok(CellTag::Empty),
+            256..=511 => Ok(CellTag::Frame((number - 256) as u8)),
+            769..=1023 => Ok(CellTag::SavedLink((number - 768) as u8)),
+            _ => Err(DepthViolation::UnknownTag),
         }
     }
+}
 
-    pub fn number(self) -> u32
-        ensures { result ≡ cell_number self }
-    {
-        match self {
+impl From<CellTag> for u32 {
+    ghost from_gives = { λ tag number. number ≡ cell_number tag };
+
+    fn from(tag: CellTag) -> u32 {
+        match tag {
             CellTag::Plain => 0,
             CellTag::Empty => 1,
-            CellTag::Code(code) => code.number(),
+            CellTag::Code(code) => u32::from(code),
             CellTag::Frame(depth) => 256 + u32::from(depth),
             CellTag::SavedLink(depth) => 768 + u32::from(depth),
         }
     }
 }
 
-impl RegisterTag {
-    /// The tag of a number, absent where the number is no register's tag.
-    pub fn of(number: u32) -> Option<RegisterTag>
-        ensures tag { result ≡ register_tag number }
-        ensures numbered { MatchOption result ((tag : RegisterTag) → ProperRegister tag → register_number tag ≢ number) (λ tag. ProperRegister tag × (register_number tag ≡ number)) }
+impl TryFrom<u32> for RegisterTag {
+    type Error = DepthViolation;
+
+    ghost try_from_gives = { λ number r. r ≡ ok_or (register_tag number) UnknownTag };
+
+    fn try_from(number: u32) -> Result<RegisterTag, DepthViolation>
+        ensures tag { result ≡ ok_or (register_tag number) UnknownTag }
+        ensures numbered { MatchResult result (λ tag. ProperRegister tag × (register_number tag ≡ number)) (λ _. (tag : RegisterTag) → ProperRegister tag → register_number tag ≢ number) }
     {
         match number {
-            0 => Some(RegisterTag::Data),
-            512..=767 => Some(RegisterTag::Link((number - 512) as u8)),
-            _ => None,
+            0 => Ok(RegisterTag::Data),
+            512..=767 => Ok(RegisterTag::Link((number - 512) as u8)),
+            _ => Err(DepthViolation::UnknownTag),
         }
     }
+}
 
-    pub fn number(self) -> u32
-        ensures { result ≡ register_number self }
-    {
-        match self {
+impl From<RegisterTag> for u32 {
+    ghost from_gives = { λ tag number. number ≡ register_number tag };
+
+    fn from(tag: RegisterTag) -> u32 {
+        match tag {
             RegisterTag::Data => 0,
             RegisterTag::Link(depth) => 512 + u32::from(depth),
         }

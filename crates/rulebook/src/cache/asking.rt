@@ -1,28 +1,15 @@
-ghost use Rattle.std.specs.Prelude.{◌≡◌, ◌<◌, true, [], ◌∷◌, ◌++◌, length, is_some, None};
+ghost use Rattle.std.specs.Prelude.{◌≡◌, true, [], length, is_some, None};
 ghost use Rattle.std.specs.List.{slice_get};
 ghost use Rattle.rulebook.specs.declared.question.Question.{Question};
 ghost use Rattle.rulebook.specs.Cache.{remembered, entries_of};
-ghost use Rattle.rulebook.specs.Entry.{cached, capacity, recall, taught, with_room};
+ghost use Rattle.rulebook.specs.Entry.{cached, recall, taught, with_room};
 
-use super::{CAPACITY, Table};
+use super::Table;
 use crate::answer::Answer;
 use crate::entry::Entry;
-use crate::group::Group;
 use crate::interface::Rulebook;
 use crate::question::Question;
-
-const BLANK: Entry = Entry {
-    question: Question {
-        group: Group::Halt,
-        pc: 0,
-        ci: 0,
-        a: 0,
-        b: 0,
-        m: 0,
-    },
-    pc: 0,
-    r: 0,
-};
+use arrayvec::ArrayVec;
 
 /// Remembers allowed answers of the rulebook below it.
 #[derive(Drop)]
@@ -39,8 +26,7 @@ impl<R: Rulebook> Cache<R> {
         ensures transparent { (p : Question) → cached (entries_of result) (R.Rulebook.meaning result.below) p ≡ R.Rulebook.meaning below p }
     {
         let table = Table {
-            entries: [BLANK; CAPACITY],
-            used: 0,
+            entries: ArrayVec::new(),
         };
         Cache { below, table }
     }
@@ -49,14 +35,14 @@ impl<R: Rulebook> Cache<R> {
     pub fn count(&self) -> usize
         ensures { result ≡ length (entries_of self.now) }
     {
-        self.table.count()
+        self.table.entries.len()
     }
 
     /// The entry at a place, the oldest at 0.
     pub fn entry(&self, place: usize) -> Option<Entry>
         ensures { result ≡ slice_get (entries_of self.now) place }
     {
-        self.table.entry(place)
+        self.table.entries.get(place).copied()
     }
 }
 
@@ -71,47 +57,23 @@ impl<R: Rulebook> Rulebook for Cache<R> {
         ensures spares { is_some (recall (entries_of self.old) q) ≡ true → self.new.below ≡ self.old.below }
     {
         if let Some(entry) = self.table.find(q) {
-            return Answer::Allowed {
-                pc: entry.pc,
-                r: entry.r,
-            };
+            return Ok(entry.tags);
         }
-        let answer = self.below.ask(q);
-        if let Answer::Allowed { pc, r } = answer {
-            self.table.remember(Entry { question: q, pc, r });
-        }
-        answer
+        let tags = self.below.ask(q)?;
+        self.table.remember(Entry { question: q, tags });
+        Ok(tags)
     }
 }
 
 impl Table {
-    fn count(&self) -> usize
-        ensures { result ≡ length (remembered self.now) }
-    {
-        self.used
-    }
-
-    fn entry(&self, place: usize) -> Option<Entry>
-        ensures { result ≡ slice_get (remembered self.now) place }
-    {
-        if place < self.used {
-            Some(self.entries[place])
-        } else {
-            None
-        }
-    }
-
     // The entry of a question.
     fn find(&self, q: Question) -> Option<Entry>
         ensures { result ≡ recall (remembered self.now) q }
     {
-        let held = &self.entries[0..self.used];
-        for entry in held {
-            if entry.question == q {
-                return Some(*entry);
-            }
-        }
-        None
+        self.entries
+            .iter()
+            .find(|entry| entry.question == q)
+            .copied()
     }
 
     // One entry more, at the end, where there is room.
@@ -119,17 +81,8 @@ impl Table {
         requires { recall (remembered self.old) entry.question ≡ None }
         ensures { remembered self.new ≡ with_room (remembered self.old) entry }
     {
-        if self.used < CAPACITY {
-            self.push(entry);
+        if !self.entries.is_full() {
+            self.entries.push(entry);
         }
-    }
-
-    fn push(&mut self, entry: Entry)
-        requires new { recall (remembered self.old) entry.question ≡ None }
-        requires room { self.old.used < capacity }
-        ensures { remembered self.new ≡ remembered self.old ++ entry ∷ [] }
-    {
-        self.entries[self.used] = entry;
-        self.used += 1;
     }
 }

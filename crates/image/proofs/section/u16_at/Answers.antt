@@ -1,6 +1,8 @@
-use Rattle.std.proofs.Common.{sym, ◌∙◌}
-use Rattle.image.proofs.Numbers.{field_two}
+use Rattle.std.proofs.Common.{sym, ap, ◌∙◌, arith}
+use Rattle.image.specs.Bytes.{field, number}
+use Rattle.image.proofs.Numbers.{number_two}
 use Rattle.image.proofs.section.u16_at.Goals as goal
 
 pub returns : goal.returns
-returns c = c.from_le_bytes.ensures ∙ sym (field_two c.args.place c.args.image.now c.requires)
+unfolding field
+returns c = c.from_le_bytes.ensures ∙ sym (number_two c.bytes_at.result (omega arith)) ∙ ap number c.bytes_at.ensures

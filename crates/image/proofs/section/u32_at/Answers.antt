@@ -1,9 +1,8 @@
-use Rattle.std.proofs.Common.{sym, ◌∙◌, arith}
-use Rattle.image.proofs.Numbers.{bytes_from, field_four}
+use Rattle.std.proofs.Common.{sym, ap, ◌∙◌, arith}
+use Rattle.image.specs.Bytes.{field, number}
+use Rattle.image.proofs.Numbers.{number_four}
 use Rattle.image.proofs.section.u32_at.Goals as goal
 
 pub returns : goal.returns
-returns c = record {
-  value = c.from_le_bytes.ensures ∙ sym (field_four c.args.place c.args.image.now c.requires);
-  bytes = bytes_from c.args.image.now (λ i. omega (arith, (c.type_inv.image i).fits));
-}
+unfolding field
+returns c = c.from_le_bytes.ensures ∙ sym (number_four c.bytes_at.result (omega arith)) ∙ ap number c.bytes_at.ensures

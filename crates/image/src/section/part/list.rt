@@ -1,11 +1,11 @@
-ghost use Rattle.std.specs.Prelude.{◌≡◌, ◌+◌, ◌≤◌, not, ◌&&◌, length, is_ok, MatchResult, ◌==◌, nat_le};
+ghost use Rattle.std.specs.Prelude.{◌≡◌, ◌+◌, ◌≤◌, ◌&&◌, length, is_ok, MatchResult, ◌==◌, nat_le};
 ghost use Rattle.journal.specs.Journal.{elements, loan, room};
 ghost use Rattle.image.specs.declared.section.part.list.RecordFault.TheVariants.{Cut};
-ghost use Rattle.image.specs.Names.{Lists, Named, Unnamed};
+ghost use Rattle.image.specs.Names.{Lists, Named, Unnamed, names_met};
 ghost use Rattle.image.specs.Reading.{Lies, Within};
 ghost use Rattle.image.specs.Section.{marked, window};
 
-use super::{Content, HEAD, HEADER, HEADER_LENGTH, Header, Reader, Span, clear, u16_at};
+use super::{Content, HEAD, HEADER_LENGTH, Header, Reader, Span, clear, u16_at};
 use crate::fault::ReadFault;
 use crate::name::Name;
 use journal::Journal;
@@ -14,7 +14,7 @@ mod loading;
 
 pub use loading::{Loaded, cells_named, load};
 
-// The kind of a record that holds a name.
+// The kind of a record that holds a name; any other is none, so there are no kinds to tell apart.
 const NAME: u16 = 1;
 
 const SHORTEST_NAME: usize = 1;
@@ -57,43 +57,35 @@ impl Drop for Narrowed<'_> {
     }
 }
 
-// How many names a list holds, and whether it breaks off.
+// A name list breaks off behind so many names, and why.
 #[derive(Clone, Copy)]
-struct Listed {
+struct BrokenOff {
     names: usize,
-    broken: bool,
+    why: RecordFault,
 }
 
-impl Reader {
-    // Appends the names of a list that the reader has just passed, as many as there are places for; the reader
-    // stands as before.
-    fn list(&mut self, image: &[u8], list: Span, size: usize, names: &mut Journal<Name>) -> Listed
-        requires lies { Lies list image.now }
-        requires passed { list.place + 6 + list.length ≡ self.old.place }
-        ensures lists { Lists size (list.place + 6) (marked image.now list).body (elements names.old) (room names.old) (elements names.new) (room names.new) result.names (not result.broken) }
-        ensures loan { loan names.new ≡ loan names.old }
-        ensures stands { self.new ≡ self.old }
-    {
-        let mut met = 0;
-        let read = self.list_records(image, list, size, names, &mut met);
-        Listed {
-            names: met,
-            broken: read.is_err(),
-        }
-    }
+// How many names a list holds, whether or not it breaks off.
+fn names_met(listed: Result<usize, BrokenOff>) -> usize
+    ensures { result ≡ names_met listed }
+{
+    listed.unwrap_or_else(|off| off.names)
+}
 
-    fn list_records(
+// That the slice lent to the names stays is said of each call that appends: it compares a journal with what it was, which
+// no invariant of a journal can.
+impl Reader {
+    // Appends the names of a list that the reader has just passed, as many as there are places for, and says how
+    // many the list holds; the reader stands as before.
+    fn list(
         &mut self,
         image: &[u8],
         list: Span,
         size: usize,
         names: &mut Journal<Name>,
-        met: &mut usize,
-    ) -> Result<(), RecordFault>
+    ) -> Result<usize, BrokenOff>
         requires lies { Lies list image.now }
         requires passed { list.place + 6 + list.length ≡ self.old.place }
-        requires none { met.old ≡ 0 }
-        ensures lists { Lists size (list.place + 6) (marked image.now list).body (elements names.old) (room names.old) (elements names.new) (room names.new) met.new (is_ok result) }
+        ensures lists { Lists size (list.place + 6) (marked image.now list).body (elements names.old) (room names.old) (elements names.new) (room names.new) (names_met result) (is_ok result) }
         ensures loan { loan names.new ≡ loan names.old }
         ensures stands { self.new ≡ self.old }
     {
@@ -104,30 +96,31 @@ impl Reader {
         };
         guard.reader.place = list.place + HEAD;
         guard.reader.end = list.place + HEAD + list.length;
-        guard.reader.records(image, size, names, met)?;
-        Ok(())
+        guard.reader.records(image, size, names)
     }
 
-    // Appends the names up to the end, or up to the first record that is none.
+    // Appends the names up to the end, or up to the first record that is none, and says how many there are.
     fn records(
         &mut self,
         image: &[u8],
         size: usize,
         names: &mut Journal<Name>,
-        met: &mut usize,
-    ) -> Result<(), RecordFault>
-        requires within { Within self.old image.now }
-        requires none { met.old ≡ 0 }
-        ensures lists { Lists size self.old.place (window self.old image.now) (elements names.old) (room names.old) (elements names.new) (room names.new) met.new (is_ok result) }
+    ) -> Result<usize, BrokenOff>
+        requires { Within self.old image.now }
+        ensures lists { Lists size self.old.place (window self.old image.now) (elements names.old) (room names.old) (elements names.new) (room names.new) (names_met result) (is_ok result) }
         ensures loan { loan names.new ≡ loan names.old }
         ensures end { self.new.end ≡ self.old.end }
     {
+        let mut met = 0;
         while self.place < self.end {
-            let name = self.name(image, size)?;
+            let name = match self.name(image, size) {
+                Ok(name) => name,
+                Err(why) => return Err(BrokenOff { names: met, why }),
+            };
             let _ = names.append(name);
-            *met += 1;
+            met += 1;
         }
-        Ok(())
+        Ok(met)
     }
 
     fn name(&mut self, image: &[u8], size: usize) -> Result<Name, RecordFault>
@@ -138,7 +131,7 @@ impl Reader {
         if !record.holds_name() {
             return Err(RecordFault::NoName);
         }
-        let address = u16_at(image, record.place + HEAD);
+        let address = u16_at(record.body(image), 0);
         if usize::from(address) >= size {
             return Err(RecordFault::NoName);
         }
@@ -155,6 +148,6 @@ impl Span {
     fn holds_name(self) -> bool
         ensures { result ≡ (self.kind == 1 && (nat_le 3 self.length && nat_le self.length 34)) }
     {
-        self.kind == NAME && self.length >= 2 + SHORTEST_NAME && self.length <= 2 + LONGEST_NAME
+        self.kind == NAME && (2 + SHORTEST_NAME..=2 + LONGEST_NAME).contains(&self.length)
     }
 }

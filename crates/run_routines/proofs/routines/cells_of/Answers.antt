@@ -1,23 +1,17 @@
-use Rattle.std.proofs.Common.{[], ◌∷◌, ◌++◌, get_or, take, sym, ap, ◌∙◌, arith, length-set}
-use Rattle.std.proofs.lemmas.List.{map-append, take_all, take_more, take_more_set}
+use Rattle.std.proofs.Common.{◌≡◌, ◌<◌, length, get_or, sym, ◌∙◌, arith, rules}
+use Rattle.std.proofs.lemmas.List.{ext_get_or, get_or-map, length-map}
 use Rattle.run_routines.specs.Routine.{cell_of, cells_of}
 use Rattle.run_routines.proofs.routines.cells_of.Goals as goal
 
-pub loop-place-preserved : goal.loop-place-preserved
-loop-place-preserved c =
-    let place = c.loop-place.place in
-    let cells = c.loop-place.cells in
-    let routine = c.args.routine in
-    let next = get_or routine place (0, 0) in (
-      length-set cells place (cell_of next) ∙ c.loop-place.invariant.0,
-      take_more_set cells place (cell_of next) (omega (arith, c.loop-place.invariant.0))
-          ∙ ap (λ front. front ++ cell_of next ∷ []) c.loop-place.invariant.1
-          ∙ sym (ap cells_of (take_more routine place (0, 0) (omega arith)) ∙ map-append cell_of (take place routine) (next ∷ [])),
-    )
-
+-- each cell is made of the pair at its place
 pub returns : goal.returns
 returns c =
-    let place = c.loop-place.place in
-    sym (take_all place c.loop-place.cells (omega (arith, c.loop-place.invariant.0)))
-    ∙ c.loop-place.invariant.1
-    ∙ ap cells_of (take_all place c.args.routine (omega arith))
+    let items = c.map.ensures.items in
+    let routine = c.args.routine in
+    let blank = cell_of (0, 0) in
+    let long : length c.map.result ≡ length (cells_of routine) = items.long ∙ omega (arith, length-map routine cell_of) in
+    ext_get_or blank c.map.result (cells_of routine) long (λ i h.
+    let below : i < 16 = omega (arith, items.long) in
+    let call = (items.at i (0, 0) blank below).2 in
+    let made : get_or c.map.result i blank ≡ cell_of (get_or routine i (0, 0)) = search rules in
+    made ∙ sym (get_or-map cell_of routine i (0, 0) blank (omega (arith, items.long))))

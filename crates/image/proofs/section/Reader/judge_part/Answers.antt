@@ -7,7 +7,7 @@ returns-then-found-free c =
     let span = c.in_ok-span.span in
     let kind = list_kind _ _ span c.in_ok-span.content c.in-Names.is read.says in
     rw c.refused.ensures
-    (list_crowded _ _ _ _ span read.opened c.requires kind _ _ _ _ c.count_names-found.result.names _ c.count_names-found.ensures.lists c.args.free c.if-found-free.true)
+    (list_crowded _ _ _ _ span read.opened c.requires kind _ _ _ _ c.count_names-found.result _ c.count_names-found.ensures.lists.1 c.args.free c.if-found-free.true)
 
 pub returns-else-found-free : goal.returns-else-found-free
 returns-else-found-free c =
@@ -15,7 +15,7 @@ returns-else-found-free c =
     let span = c.in_ok-span.span in
     let kind = list_kind _ _ span c.in_ok-span.content c.in-Names.is read.says in
     rw c.count_names-found.ensures.stands
-    (list_judged _ _ _ _ span read.opened c.requires kind _ _ _ _ c.count_names-found.result.names _ c.count_names-found.ensures.lists c.args.free c.if-found-free.false)
+    (list_judged _ _ _ _ span read.opened c.requires kind _ _ _ _ c.count_names-found.result _ c.count_names-found.ensures.lists.1 c.args.free c.if-found-free.false)
 
 pub returns-in_default : goal.returns-in_default
 returns-in_default c =

@@ -1,6 +1,6 @@
-use Rattle.std.proofs.Common.{◌≡◌, ◌+◌, ◌-◌}
-use Rattle.image.specs.Stored.{retagged}
+use Rattle.std.proofs.Common.{◌≡◌, ◌++◌, map, take, drop}
+use Rattle.image.specs.Stored.{tagged}
 use Rattle.image.proofs.section.part.store_tags.Given as goal
 
-abbrev pub invariant-loop-i : goal.invariant-loop-i
-invariant-loop-i l = retagged (l.address + l.i) (l.count - l.i) l.tag l.cells ≡ retagged l.address l.count l.tag l.initial.cells
+abbrev pub invariant-loop-cell : goal.invariant-loop-cell
+invariant-loop-cell l = l.cells ≡ map (λ cell. tagged l.tag cell.word) (take l.cell-index l.initial.cells) ++ drop l.cell-index l.initial.cells

@@ -1,26 +1,15 @@
-use Rattle.std.proofs.Common.{◌≡◌, ℕ, suc, ◌+◌, ◌-◌, ◌*◌, ◌<◌, List, map, drop, set, ◌∙◌, arith}
-use lib.Seq.{sets}
-use Rattle.machine.specs.declared.cell.Cell.{Cell}
-use Rattle.image.specs.Bytes.{field}
+use Rattle.std.proofs.Common.{refl, add-one, arith}
+use Rattle.std.proofs.lemmas.List.{map-append, take_more_set}
 use Rattle.image.specs.Content.{words_in}
 use Rattle.image.specs.Stored.{tagged}
-use Rattle.image.proofs.Contents.{words_more}
+use Rattle.image.proofs.Contents.{words_push}
 use Rattle.image.proofs.section.part.store_words.Goals as goal
 
-one_more : (image : List ℕ) (address first count i tag : ℕ) (cells : List Cell) → i < count
-    → sets (set cells (address + i) (tagged tag (field 4 (first + 4 * i) image))) (address + (i + 1)) (map (tagged tag) (words_in (count - (i + 1)) (drop (first + 4 * (i + 1)) image)))
-    ≡ sets cells (address + i) (map (tagged tag) (words_in (count - i) (drop (first + 4 * i) image)))
-one_more image address first count i tag cells lt =
-    let f : address + (i + 1) ≡ suc (address + i) = omega arith in
-    rw (words_more image first count i lt, f)
+pub loop-i-init : goal.loop-i-init
+unfolding words_in
+loop-i-init c = refl
 
 pub loop-i-preserved : goal.loop-i-preserved
 loop-i-preserved c =
-    rw c.store_word.ensures
-    (one_more c.args.image.now c.args.address c.args.first c.args.count c.loop-i.i c.args.tag c.loop-i.cells c.loop-i-test.true ∙ c.loop-i.invariant)
-
-pub returns : goal.returns
-unfolding words_in
-returns c =
-    let none : c.args.count - c.loop-i.i ≡ 0 = omega arith in
-    rw none at c.loop-i.invariant
+    let i = c.loop-i.i in
+    rw (take_more_set c.loop-i.cells i (tagged c.args.tag c.u32_at.result) (omega arith), c.loop-i.invariant, add-one, words_push i c.args.bytes.now, c.u32_at.ensures, map-append)

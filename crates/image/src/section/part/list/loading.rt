@@ -1,4 +1,4 @@
-ghost use Rattle.std.specs.Prelude.{◌≡◌, ◌+◌, ◌^◌, ◌<◌, true, not, [], length, Some, MatchResult, OnErr};
+ghost use Rattle.std.specs.Prelude.{◌≡◌, ◌+◌, ◌^◌, ◌<◌, Bool, true, [], length, Some, MatchResult, OnErr};
 ghost use Rattle.journal.specs.Journal.{elements, loan, room};
 ghost use Rattle.machine.specs.Calls.{in_limits, start_state};
 ghost use Rattle.image.specs.declared.fault.LoadFault.TheVariants.{Judged};
@@ -10,11 +10,11 @@ ghost use Rattle.image.specs.Passing.{AllJudged, AllObeyed, HeaderRead, ImageObe
 ghost use Rattle.image.specs.Reading.{Lies, Within};
 ghost use Rattle.image.specs.Section.{marked, window};
 
-use super::{Content, HEAD, HEADER, HEADER_LENGTH, Header, Listed, Reader, Span, clear, u16_at};
+use super::{Content, HEADER_LENGTH, Header, Reader, Span, clear, names_met, u16_at};
 use crate::fault::LoadFault;
 use crate::name::Name;
 use journal::Journal;
-use machine::{Cell, FEWEST_CELLS, Live, MOST_CELLS, REGISTERS};
+use machine::{Cell, FEWEST_CELLS, Live, REGISTERS, in_limits};
 use refusal::Refusal;
 
 /// A machine that an image was loaded into.
@@ -48,8 +48,7 @@ pub fn load(
 fn fit(cells: &[Cell], registers: &[Cell]) -> bool
     ensures { result ≡ sized cells.now registers.now }
 {
-    let size = cells.len();
-    size >= FEWEST_CELLS && size <= MOST_CELLS && registers.len() == REGISTERS
+    in_limits(cells.len()) && registers.len() == REGISTERS
 }
 
 // Loads an image that is not refused.
@@ -68,7 +67,7 @@ fn fill(
     let live = header.live(cells);
     clear(cells);
     clear(registers);
-    let broken = obey_accepted(image, cells, names);
+    let broken = obey(image, cells, names).unwrap();
     Loaded { live, broken }
 }
 
@@ -78,23 +77,7 @@ impl Header {
         requires { in_limits (length cells.now) ≡ true }
         ensures { result ≡ record { state = start_state self.start self.tag (length cells.now) } }
     {
-        match Live::start(u32::from(self.start), self.tag, cells) {
-            Ok(live) => live,
-            Err(_) => unreachable(),
-        }
-    }
-}
-
-// Does what the sections of an image that is not refused say, and says how many name lists break off.
-fn obey_accepted(image: &[u8], cells: &mut [Cell], names: &mut Journal<Name>) -> usize
-    requires small { length cells.old < 2 ^ 16 }
-    requires accepts { (h : Header) × Accepts (length cells.old) (length (room names.old)) image.now h }
-    ensures obeys { ImageObeyed (length cells.old) image.now cells.old cells.new (elements names.old) (room names.old) (elements names.new) (room names.new) result }
-    ensures loan { loan names.new ≡ loan names.old }
-{
-    match obey(image, cells, names) {
-        Ok(broken) => broken,
-        Err(_) => unreachable(),
+        Live::start(u32::from(self.start), self.tag, cells).unwrap()
     }
 }
 
@@ -119,22 +102,20 @@ impl Reader {
         ensures { MatchResult result (HeaderRead size image.now self.old self.new) (λ fault. section_fault (header_refusal size) self.old.place (window self.old image.now) ≡ Some fault) }
     {
         let span = self.section(image)?;
-        match span.header(image, size) {
-            Ok(header) => Ok(header),
-            Err(why) => Err(refused(why, span.place)),
-        }
+        span.header(image, size)
+            .map_err(|why| refused(why, span.place))
     }
 
     // The next section, and what it says.
-    fn part(&mut self, image: &[u8], size: usize) -> Result<(Span, Content), LoadFault>
+    fn part<'i>(&mut self, image: &'i [u8], size: usize) -> Result<(Span, Content<'i>), LoadFault>
         requires { Within self.old image.now }
         ensures { MatchResult result (λ p. PartRead size image.now self.old self.new p.0 p.1) (λ fault. section_fault (part_refusal size) self.old.place (window self.old image.now) ≡ Some fault) }
     {
         let span = self.section(image)?;
-        match span.content(image, size) {
-            Ok(content) => Ok((span, content)),
-            Err(refusal) => Err(refused(refusal, span.place)),
-        }
+        let content = span
+            .content(image, size)
+            .map_err(|refusal| refused(refusal, span.place))?;
+        Ok((span, content))
     }
 
     // Judges the next section, with so many places for names, and says how many are left.
@@ -145,7 +126,7 @@ impl Reader {
         let (span, content) = self.part(image, size)?;
         match content {
             Content::Names => {
-                let found = self.count_names(image, span, size).names;
+                let found = self.count_names(image, span, size);
                 if found > free {
                     return Err(refused(Refusal::NamesFull, span.place));
                 }
@@ -156,15 +137,15 @@ impl Reader {
     }
 
     // Reads the names into a journal that has no place for any.
-    fn count_names(&mut self, image: &[u8], list: Span, size: usize) -> Listed
+    fn count_names(&mut self, image: &[u8], list: Span, size: usize) -> usize
         requires lies { Lies list image.now }
         requires passed { list.place + 6 + list.length ≡ self.old.place }
-        ensures lists { Lists size (list.place + 6) (marked image.now list).body [] [] [] [] result.names (not result.broken) }
+        ensures lists { (whole : Bool) × Lists size (list.place + 6) (marked image.now list).body [] [] [] [] result whole }
         ensures stands { self.new ≡ self.old }
     {
         let mut none: [Name; 0] = [];
         let mut nowhere = Journal::over(&mut none);
-        self.list(image, list, size, &mut nowhere)
+        names_met(self.list(image, list, size, &mut nowhere))
     }
 
     // Does what the next section says, and says whether it is a name list that breaks off.
@@ -180,20 +161,24 @@ impl Reader {
     {
         let size = cells.len();
         let (span, content) = self.part(image, size)?;
-        content.store(image, cells);
+        content.store(cells);
         match content {
-            Content::Names => Ok(self.list(image, span, size, names).broken),
+            Content::Names => Ok(self.list(image, span, size, names).is_err()),
             _ => Ok(false),
         }
     }
 }
 
-fn judge_parts(reader: Reader, image: &[u8], size: usize, free: usize) -> Result<(), LoadFault>
+// Its loop and that of `obey_parts` have one line in common, and no fact: one function for both is no plainer.
+fn judge_parts(
+    mut reader: Reader,
+    image: &[u8],
+    size: usize,
+    mut free: usize,
+) -> Result<(), LoadFault>
     requires { Within reader image.now }
     ensures { MatchResult result (λ _. AllJudged size image.now reader free) (OneRefused size image.now reader free) }
 {
-    let mut reader = reader;
-    let mut free = free;
     while reader.place < reader.end {
         free = reader.judge_part(image, size, free)?;
     }
@@ -201,7 +186,7 @@ fn judge_parts(reader: Reader, image: &[u8], size: usize, free: usize) -> Result
 }
 
 fn obey_parts(
-    reader: Reader,
+    mut reader: Reader,
     image: &[u8],
     cells: &mut [Cell],
     names: &mut Journal<Name>,
@@ -210,7 +195,6 @@ fn obey_parts(
     ensures obeys { MatchResult result (AllObeyed (length cells.old) image.now reader cells.old cells.new (elements names.old) (room names.old) (elements names.new) (room names.new)) (OneStops (length cells.old) image.now reader) }
     ensures loan { loan names.new ≡ loan names.old }
 {
-    let mut reader = reader;
     let mut broken: usize = 0;
     while reader.place < reader.end {
         let breaks = reader.obey_part(image, cells, names)?;
@@ -245,19 +229,16 @@ fn obey(image: &[u8], cells: &mut [Cell], names: &mut Journal<Name>) -> Result<u
 pub fn cells_named(image: &[u8]) -> usize
     ensures { result ≡ cells_named image.now }
 {
-    match header_cells(image) {
-        Some(cells) => limited(usize::from(cells)),
-        None => FEWEST_CELLS,
-    }
+    header_cells(image).map_or(FEWEST_CELLS, |cells| limited(usize::from(cells)))
 }
 
 fn limited(cells: usize) -> usize
     ensures { result ≡ within_limits cells }
 {
-    if cells < FEWEST_CELLS || cells > MOST_CELLS {
-        FEWEST_CELLS
-    } else {
+    if in_limits(cells) {
         cells
+    } else {
+        FEWEST_CELLS
     }
 }
 
@@ -265,11 +246,7 @@ fn limited(cells: usize) -> usize
 fn header_cells(image: &[u8]) -> Option<u16>
     ensures { result ≡ header_cells image.now }
 {
-    let mut reader = Reader::over(image);
-    match reader.section(image) {
-        Ok(span) => span.cells(image),
-        Err(_) => None,
-    }
+    Reader::over(image).section(image).ok()?.cells(image)
 }
 
 impl Span {
@@ -277,9 +254,10 @@ impl Span {
         requires { Lies self image.now }
         ensures { result ≡ cells_in (marked image.now self) }
     {
-        if self.kind != HEADER || self.length != HEADER_LENGTH {
+        let body = self.body(image);
+        if !self.is_header() || body.len() != HEADER_LENGTH {
             return None;
         }
-        Some(u16_at(image, self.place + HEAD))
+        Some(u16_at(body, 0))
     }
 }

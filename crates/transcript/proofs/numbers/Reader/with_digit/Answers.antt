@@ -1,13 +1,8 @@
 use Rattle.std.proofs.Common.{arith}
 use Rattle.transcript.specs.Reading.{seen}
-use Rattle.transcript.proofs.Turns.{too_large, grown}
+use Rattle.transcript.proofs.Turns.{too_large}
 use Rattle.transcript.proofs.numbers.Reader.with_digit.Goals as goal
 
 pub returns-in_err-current : goal.returns-in_err-current
 returns-in_err-current c =
     rw c.from_residual.ensures (too_large (seen c.args.self) c.args.digit (omega (arith, c.in_err-current.ensures)))
-
-pub returns : goal.returns
-returns c =
-    let sum = c.in_ok-current.ensures in
-    grown c.args.self c.args.digit c.in_ok-current.current (omega arith) (omega arith) c.requires

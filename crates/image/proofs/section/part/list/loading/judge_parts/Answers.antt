@@ -1,4 +1,4 @@
-use Rattle.std.proofs.lemmas.Result.{err_from_is_err_and}
+use Rattle.image.proofs.Outcomes.{err_passed}
 use Rattle.image.proofs.Walks.{fewer, judging_more, judging_none, judging_refused}
 use Rattle.image.proofs.section.part.list.loading.judge_parts.Goals as goal
 
@@ -14,6 +14,5 @@ loop-reader-preserved c =
 
 pub returns-in_err-free : goal.returns-in_err-free
 returns-in_err-free c =
-    let p = err_from_is_err_and c.from_residual.result c.from_residual.ensures.1 in
-    rw (p.1, p.2)
+    rw (err_passed c.from_residual.result _ c.from_residual.ensures.1)
     (judging_refused c.args.size c.args.image.now c.args.reader c.args.free _ _ _ c.loop-reader.invariant c.loop-reader-test.true c.in_err-free.ensures)

@@ -1,6 +1,6 @@
 use Rattle.std.proofs.Common.{◌≡◌, Bool, true, false, cond, refl, ◌∙◌}
 use mir.Val.{bool_byte}
-use Rattle.std.proofs.lemmas.Result.{err_from_is_err_and}
+use Rattle.image.proofs.Outcomes.{err_passed}
 use Rattle.image.proofs.Walks.{fewer, obeying_more, obeying_none, obeying_stops}
 use Rattle.image.proofs.section.part.list.loading.obey_parts.Goals as goal
 
@@ -21,10 +21,7 @@ loop-reader-preserved c =
     let added : c.from-broken.result ≡ cond c.in_ok-breaks.breaks 1 0 = c.from-broken.ensures ∙ byte c.in_ok-breaks.breaks in
     (rw added (obeying_more _ _ _ _ _ _ _ _ _ _ _ _ _ _ c.loop-reader.broken c.in_ok-breaks.breaks i.0 (rw c.loop-reader.auto.cells at e.obeys)), e.loan ∙ i.1)
 
-pub returns-in_err-breaks : goal.returns-in_err-breaks
-returns-in_err-breaks c =
-    let p = err_from_is_err_and c.from_residual.result c.from_residual.ensures.1 in
-    let i = c.loop-reader.invariant in
-    let e = c.in_err-breaks.ensures in
-    rw (p.1, p.2)
-    (record { obeys = obeying_stops _ _ _ _ _ _ _ _ _ _ c.loop-reader.broken _ i.0 c.loop-reader-test.true (rw c.loop-reader.auto.cells at e.obeys); loan = e.loan ∙ i.1 })
+pub returns-in_err-breaks-clause-obeys : goal.returns-in_err-breaks-clause-obeys
+returns-in_err-breaks-clause-obeys c =
+    rw (err_passed c.from_residual.result _ c.from_residual.ensures.1)
+    (obeying_stops _ _ _ _ _ _ _ _ _ _ c.loop-reader.broken _ c.loop-reader.invariant.0 c.loop-reader-test.true (rw c.loop-reader.auto.cells at c.in_err-breaks.ensures.obeys))
