@@ -16,14 +16,17 @@ struct Board {
 }
 
 impl Board {
-    fn over(cells: [Cell; 16]) -> Board {
-        Board {
+    // A board with these cells, and a machine on it that is at this pc.
+    fn start(pc: u32, cells: [Cell; 16]) -> Result<(Board, Live), Refusal> {
+        let board = Board {
             cells,
             registers: [Cell::BLANK; REGISTERS],
             rules: Alone {
                 rules: DepthIsolation,
             },
-        }
+        };
+        let live = Live::start(pc, 0, &board.cells)?;
+        Ok((board, live))
     }
 
     fn run(
@@ -97,8 +100,7 @@ fn words_with_a_wrong_field_are_illegal(rt: HostRuntime) {
 fn first_step(pc: u32, word: u32, tag: u32) -> Result<Record, Fail> {
     let mut cells = [Cell::BLANK; 16];
     cells[0] = Cell { word, tag };
-    let mut board = Board::over(cells);
-    let live = Live::start(pc, 0, &board.cells)?;
+    let (mut board, live) = Board::start(pc, cells)?;
     match live.step(&mut board.cells, &mut board.registers, &mut board.rules) {
         Ok(Stepped { entry, next: _ }) => Ok(entry),
         Err(_) => Err(Fail::new("refused")),
@@ -132,10 +134,9 @@ fn each_cause(rt: HostRuntime) -> Result<(), Fail> {
 
 #[test]
 fn the_doubling_routine_runs_as_it_was_followed(rt: HostRuntime) -> Result<(), Fail> {
-    let mut board = Board::over(doubling_routine());
+    let (mut board, live) = Board::start(0, doubling_routine())?;
     let mut slots = [Record::BLANK; 64];
     let mut journal = Journal::over(&mut slots);
-    let live = Live::start(0, 0, &board.cells)?;
     let ran = board.run(live, 64, &mut journal)?;
     assert_eq!(rt; ran.added, 10);
     let End::Stopped(stopped) = ran.end else {
@@ -157,10 +158,9 @@ const ROUND: Cell = Cell {
 
 #[test]
 fn a_run_is_spent_and_then_full(rt: HostRuntime) -> Result<(), Fail> {
-    let mut board = Board::over([ROUND; 16]);
+    let (mut board, live) = Board::start(0, [ROUND; 16])?;
     let mut slots = [Record::BLANK; 8];
     let mut journal = Journal::over(&mut slots);
-    let live = Live::start(0, 0, &board.cells)?;
     let ran = board.run(live, 5, &mut journal)?;
     assert_eq!(rt; ran.added, 5);
     let End::Spent(live) = ran.end else {
@@ -177,10 +177,9 @@ fn a_run_is_spent_and_then_full(rt: HostRuntime) -> Result<(), Fail> {
 
 // The number, as a maker sees it, by which a run over so many registers, with this budget, is refused.
 fn refused_by(registers: usize, budget: u32) -> Result<Option<u8>, Fail> {
-    let mut board = Board::over([ROUND; 16]);
+    let (mut board, live) = Board::start(0, [ROUND; 16])?;
     let mut slots = [Record::BLANK; 1];
     let mut journal = Journal::over(&mut slots);
-    let live = Live::start(0, 0, &board.cells)?;
     if registers > REGISTERS {
         return Err(Fail::new("too many"));
     }
