@@ -1,18 +1,28 @@
 -- Bodies and what they say.
-use Rattle.std.proofs.Common.{◌≡◌, ℕ, zero, suc, ◌+◌, ◌-◌, ◌*◌, ◌/◌, ◌%◌, ◌^◌, ◌<◌, ◌≤◌, List, [], ◌∷◌, ◌++◌, length, take, drop, sym, refl, ap, ◌∙◌, mul-suc, arith}
+use Rattle.std.proofs.Common.{◌≡◌, ℕ, zero, suc, ◌+◌, ◌-◌, ◌*◌, ◌/◌, ◌%◌, ◌^◌, ◌<◌, ◌≤◌, List, [], ◌∷◌, ◌++◌, length, take, drop, sym, refl, ap, ◌∙◌, add-zero, mul-suc, arith}
 use Rattle.std.specs.List.{flat_map, AllByRecursion}
 use Rattle.std.proofs.ByRecursion.{All-drop, All-take}
-use Rattle.std.proofs.lemmas.List.{append-nil, drop_all, drop-drop, length-drop, length-take-le, nil_from_length}
+use Rattle.std.proofs.lemmas.List.{append-nil, drop_all, drop-drop, length-drop, length-take-le, nil_from_length, take-take}
 use Rattle.image.specs.declared.section.Span.{Span}
 use Rattle.image.specs.Bytes.{Bytes, bytes_of, number, field}
 use Rattle.image.specs.Content.{all_words, words_in}
 use Rattle.image.specs.Section.{Section, marked}
 use Rattle.image.proofs.Numbers.{field_lt, field_split}
+use Rattle.image.proofs.Windows.{drop_window}
 
 -- the body that a span marks
 module _ (image : List ℕ) (span : Span) (fits : span.place + 6 + span.length ≤ length image) where
   pub body_length : length (marked image span).body ≡ span.length
   body_length = length-take-le span.length (drop (span.place + 6) image) (simp length-drop (omega arith))
+
+  pub body_field : (k off : ℕ) → off + k ≤ span.length → field k off (marked image span).body ≡ field k (span.place + 6 + off) image
+  unfolding field
+  body_field k off le =
+      ap (λ xs. number (take k xs)) (drop_window (span.place + 6) span.length off image (omega arith))
+      ∙ ap number (take-take k (span.length - off) (drop (span.place + 6 + off) image) (omega arith))
+
+  pub body_front : (k : ℕ) → k ≤ span.length → field k 0 (marked image span).body ≡ field k (span.place + 6) image
+  body_front k le = body_field k 0 (omega arith) ∙ ap (λ p. field k p image) (add-zero (span.place + 6))
 
 -- a body of 2, 2 and 4 bytes
 pub three_fields : (body : List ℕ) → length body ≡ 8 → Bytes body → bytes_of 2 (field 2 0 body) ++ (bytes_of 2 (field 2 2 body) ++ bytes_of 4 (field 4 4 body)) ≡ body
@@ -52,6 +62,25 @@ words_small zero bs long bytes = tt
 words_small (suc n) bs long bytes =
     let l : 4 * n + 4 ≤ length bs = rw mul-suc at long in
     (field_lt 4 0 bs (omega arith) bytes, words_small n (drop 4 bs) (simp length-drop (omega arith)) (All-drop _ 4 bs bytes))
+
+-- and do not depend on what stands behind them
+pub words_of_take : (n m : ℕ) (bs : List ℕ) → 4 * n ≤ m → words_in n (take m bs) ≡ words_in n bs
+unfolding words_in field
+words_of_take zero m bs le = refl
+words_of_take (suc n) m bs le =
+    let l : 4 * n + 4 ≤ m = rw mul-suc at le in
+    let here : field 4 0 (take m bs) ≡ field 4 0 bs = ap number (take-take 4 m bs (omega arith)) in
+    let rest : drop 4 (take m bs) ≡ take (m - 4) (drop 4 bs) = drop_window 0 m 4 bs (omega arith) in
+    rw (here, rest, words_of_take n (m - 4) (drop 4 bs) (omega arith))
+
+-- the words from the i-th on
+pub words_more : (image : List ℕ) (first count i : ℕ) → i < count
+    → words_in (count - i) (drop (first + 4 * i) image) ≡ field 4 (first + 4 * i) image ∷ words_in (count - (i + 1)) (drop (first + 4 * (i + 1)) image)
+unfolding words_in field
+words_more image first count i lt =
+    let e : count - i ≡ suc (count - (i + 1)) = omega arith in
+    let f : first + 4 * i + 4 ≡ first + 4 * (i + 1) = omega arith in
+    rw (e, drop-drop 4 (first + 4 * i) image, f)
 
 -- one word more
 pub words_push : (n : ℕ) (bs : List ℕ) → words_in (suc n) bs ≡ words_in n bs ++ field 4 (4 * n) bs ∷ []

@@ -3,7 +3,7 @@ use Rattle.std.proofs.Common.{◌≡◌, ℕ, zero, suc, ◌+◌, ◌*◌, ◌/�
 use native.Mathlib.Nat.{add-mul-div_left, add-mul-mod_self_left, div-eq_of_lt, mod-add-div}
 use Rattle.std.proofs.lemmas.Nat.{div_below}
 use Rattle.std.proofs.ByRecursion.{All-drop, All-from_get_or, All-take}
-use Rattle.std.proofs.lemmas.List.{drop_at, length-drop, length-take-le, take-append-drop, take_at}
+use Rattle.std.proofs.lemmas.List.{drop_at, drop_more, length-drop, length-take-le, take-append-drop, take_at}
 use Rattle.image.specs.Bytes.{Bytes, number, bytes_of, field}
 
 pub length_bytes_of : (k n : ℕ) → length (bytes_of k n) ≡ k
@@ -75,6 +75,28 @@ number_four (a ∷ b ∷ []) h = absurd (omega arith)
 number_four (a ∷ b ∷ c ∷ []) h = absurd (omega arith)
 number_four (a ∷ b ∷ c ∷ d ∷ []) h = omega arith
 number_four (a ∷ b ∷ c ∷ d ∷ e ∷ bs) h = absurd (omega arith)
+
+-- a field is its lowest byte and the field behind that
+field_more : (k place next : ℕ) (bs : List ℕ) → place + 1 ≡ next → next ≤ length bs → field (suc k) place bs ≡ get_or bs place 0 + 256 * field k next bs
+unfolding field number
+field_more k place next bs e h = rw (← e, drop_more bs place 0 (omega arith))
+
+pub field_two : (place : ℕ) (bs : List ℕ) → place + 2 ≤ length bs → field 2 place bs ≡ get_or bs place 0 + get_or bs (place + 1) 0 * 256
+unfolding field number
+field_two place bs h =
+    let a = field_more 1 place (place + 1) bs refl (omega arith) in
+    let b = field_more 0 (place + 1) (place + 2) bs (omega arith) (omega arith) in
+    omega arith
+
+pub field_four : (place : ℕ) (bs : List ℕ) → place + 4 ≤ length bs
+    → field 4 place bs ≡ get_or bs place 0 + get_or bs (place + 1) 0 * 256 + get_or bs (place + 2) 0 * 65536 + get_or bs (place + 3) 0 * 16777216
+unfolding field number
+field_four place bs h =
+    let a = field_more 3 place (place + 1) bs refl (omega arith) in
+    let b = field_more 2 (place + 1) (place + 2) bs (omega arith) (omega arith) in
+    let c = field_more 1 (place + 2) (place + 3) bs (omega arith) (omega arith) in
+    let d = field_more 0 (place + 3) (place + 4) bs (omega arith) (omega arith) in
+    omega arith
 
 pub bytes_from : (bs : List ℕ) → ((i : ℕ) → get_or bs i 0 < 256) → Bytes bs
 bytes_from bs h = All-from_get_or _ bs 0 (λ i _. h i)

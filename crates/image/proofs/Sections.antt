@@ -1,11 +1,11 @@
 -- Bytes and the section that they begin with.
 use Rattle.std.proofs.Common.{◌≡◌, ℕ, ◌+◌, ◌≤◌, false, List, [], ◌++◌, length, take, drop, sym, refl, ap, ◌∙◌, arith}
-use Rattle.std.proofs.ByRecursion.{All-drop}
+use Rattle.std.proofs.ByRecursion.{All-drop, All-take}
 use Rattle.std.proofs.lemmas.List.{append_assoc, drop_at, drop-drop, length-append, length-drop, length-take-le, take-append-drop, take_at}
 use Rattle.std.proofs.lemmas.Bool.Decides.{nat_tests}
 use Rattle.image.specs.Bytes.{Bytes, bytes_of, field}
 use Rattle.image.specs.Section.{Section, Proper, behind_first, cut_short, first_section, framed}
-use Rattle.image.proofs.Numbers.{field_at, field_split, length_bytes_of}
+use Rattle.image.proofs.Numbers.{field_at, field_lt, field_split, length_bytes_of}
 
 pub whole_le : (w : List ℕ) → cut_short w ≡ false → 6 + field 4 0 w ≤ length w
 whole_le w h = grind (arith, nat_tests)
@@ -19,6 +19,15 @@ framed_first w h bytes =
     let body : take (field 4 0 w) (drop 6 w) ++ drop (6 + field 4 0 w) w ≡ drop 6 w = ap (λ xs. take (field 4 0 w) (drop 6 w) ++ xs) (sym (drop-drop (field 4 0 w) 6 w)) ∙ take-append-drop (field 4 0 w) (drop 6 w) in
     let kind : bytes_of 2 (field 2 4 w) ++ drop 6 w ≡ drop 4 w = ap (λ xs. bytes_of 2 (field 2 4 w) ++ xs) (sym (drop-drop 2 4 w)) ∙ field_split 2 (drop 4 w) (simp length-drop (omega arith)) (All-drop _ 4 w bytes) in
     rw (long, append_assoc, append_assoc, body, kind) (field_split 4 w (omega arith) bytes)
+
+pub proper_first : (w : List ℕ) → cut_short w ≡ false → Bytes w → Proper (first_section w)
+proper_first w h bytes =
+    let le = whole_le w h in
+    record {
+      kind = field_lt 2 4 w (omega arith) bytes;
+      size = rw (length-take-le (field 4 0 w) (drop 6 w) (simp length-drop (omega arith))) (field_lt 4 0 w (omega arith) bytes);
+      bytes = All-take _ (field 4 0 w) (drop 6 w) (All-drop _ 6 w bytes);
+    }
 
 -- the bytes of a section begin with it
 module _ (s : Section) (rest : List ℕ) (proper : Proper s) where

@@ -2,7 +2,7 @@
 use Rattle.std.proofs.Common.{◌≡◌, ℕ, ◌+◌, ◌-◌, ◌^◌, ◌<◌, ◌≤◌, false, ltb, List, length, take, drop, refl, ap, ◌∙◌, add_assoc, arith, le-ltb}
 use Rattle.std.proofs.lemmas.List.{drop-drop, drop-take, length-drop, length-take-le, take-take}
 use Rattle.image.specs.declared.section.Reader.{Reader}
-use Rattle.image.specs.Bytes.{Bytes, field}
+use Rattle.image.specs.Bytes.{Bytes, field, number}
 use Rattle.image.specs.Reading.{Opened, Within}
 use Rattle.image.specs.Section.{window}
 
@@ -15,6 +15,12 @@ drop_window from n k xs le =
 
 pub length_window : (reader : Reader) (image : List ℕ) → Within reader image → length (window reader image) ≡ reader.end - reader.place
 length_window reader image within = length-take-le (reader.end - reader.place) (drop reader.place image) (simp length-drop (omega arith))
+
+pub field_window : (k off : ℕ) (reader : Reader) (image : List ℕ) → off + k ≤ reader.end - reader.place → field k off (window reader image) ≡ field k (reader.place + off) image
+unfolding field
+field_window k off reader image le =
+    let n = reader.end - reader.place in
+    ap (λ xs. number (take k xs)) (drop_window reader.place n off image (omega arith)) ∙ ap number (take-take k (n - off) (drop (reader.place + off) image) (omega arith))
 
 module _ (image : List ℕ) (reader : Reader) (within : Within reader image) (length_read : ℕ) (short : length_read < 2 ^ 32) (head : 6 ≤ length (window reader image)) (reads : length_read ≡ field 4 0 (window reader image)) where
   not_head : ltb (length (window reader image)) 6 ≡ false

@@ -41,6 +41,8 @@ impl Narrow for WriteOrExecute {
 
     ghost narrow = { Prim.search rules };
 
+    ghost told = { λ v w. Prim.search rules };
+
     fn decide(&self, q: Question) -> Result<Tags, WriteOrExecuteViolation>
         ensures answers { result ≡ write_or_execute q }
         ensures lawful { Lawful q result }

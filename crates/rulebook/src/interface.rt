@@ -1,4 +1,4 @@
-ghost use Rattle.std.specs.Prelude.{◌≡◌, IfOk, Result};
+ghost use Rattle.std.specs.Prelude.{◌≡◌, Decides, IfOk, Result};
 ghost use Rattle.rulebook.specs.declared.question.Question.{Question};
 ghost use Rattle.rulebook.specs.declared.answer.Tags.{Tags};
 ghost use Rattle.rulebook.specs.Answer.{Answer, IsNarrow};
@@ -6,6 +6,7 @@ ghost use Rattle.rulebook.specs.Answer.{Answer, IsNarrow};
 use super::answer::{Answer, Tags};
 use super::question::Question;
 use super::violation::Violation;
+use std::fmt::Debug;
 
 /// A rulebook means one answer for every question.  Asking may change what it holds, as a cache
 /// does, and never what it means.
@@ -19,7 +20,7 @@ pub trait Rulebook {
 
 /// A rulebook whose tags have 16 bits, so that two of them can share a tag of 32.
 pub trait Narrow {
-    type Violation: Violation;
+    type Violation: Violation + Copy + Eq + Debug;
 
     ghost rules: { Self → Question → Result Tags Self.Violation };
 
@@ -27,4 +28,7 @@ pub trait Narrow {
         ensures answers { result ≡ rules self.now q };
 
     ghost narrow: { (n : Self) (q : Question) → IfOk (rules n q) IsNarrow };
+
+    // `==` tells whether two violations are one and the same.
+    ghost told: { (v w : Self.Violation) → Decides (Self.Violation.PartialEq.eq v w) (v ≡ w) };
 }

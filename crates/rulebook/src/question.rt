@@ -14,7 +14,16 @@ pub struct Question {
     pub m: u32,
 }
 
-// `==` says whether two questions are one and the same, and so is an equivalence.
+// `==` is equality in all six numbers.
+#[derived]
+impl PartialEq for Question {
+    ghost use Rattle.std.specs.Cmp.{partial_equiv_from_equiv};
+    ghost use Rattle.rulebook.specs.Same.{same_question_laws};
+
+    ghost laws = { partial_equiv_from_equiv same_question_laws };
+}
+
+// It says whether two questions are one and the same, and so is an equivalence.
 #[derived]
 impl Eq for Question {
     ghost use Rattle.std.specs.Cmp.{decided};

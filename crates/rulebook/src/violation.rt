@@ -8,3 +8,12 @@ pub trait Violation: Sized {
     fn number(self) -> u8
         ensures { result ≡ numbered self };
 }
+
+/// A number is a violation, for rulebooks that have no enum of theirs.
+impl Violation for u8 {
+    ghost numbered = { λ number. number };
+
+    fn number(self) -> u8 {
+        self
+    }
+}

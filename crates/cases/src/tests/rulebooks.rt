@@ -1,3 +1,7 @@
+ghost use Rattle.std.specs.Prelude.{◌≡◌, ◌==◌, cond, Err};
+ghost use Rattle.std.proofs.Common.{rules};
+ghost use Rattle.rulebook.specs.Answer.{allowed};
+
 use crate::{Case, marked_cases};
 use policies::{DepthIsolation, WriteOrExecute};
 use rulebook::{
@@ -69,6 +73,54 @@ fn each_violation_of_write_or_execute(rt: HostRuntime) {
         let ruling = WriteOrExecute.decide(question(group, tags));
         assert_eq!(rt; ruling.map_err(|denied| denied.number()), answer);
     }
+}
+
+// A narrow rulebook that has no enum of violations: it allows at depth 0 alone, and its one violation is the number 3.
+#[derive(Clone, Copy)]
+struct AtDepthZero;
+
+impl Narrow for AtDepthZero {
+    type Violation = u8;
+
+    ghost rules = { λ _ q. cond (q.pc == 0) (allowed 0 0) (Err 3) };
+
+    ghost narrow = { λ _ q. Prim.search rules };
+
+    ghost told = { λ v w. Prim.search rules };
+
+    fn decide(&self, q: Question) -> Result<Tags, u8> {
+        if q.pc == 0 {
+            Ok(Tags { pc: 0, r: 0 })
+        } else {
+            Err(3)
+        }
+    }
+}
+
+// Whether a rulebook, of any violations, decides two questions alike. What it decides is copied, compared and let go.
+fn agrees<N: Narrow>(rules: &N, p: Question, q: Question) -> bool {
+    let once = rules.decide(p);
+    let again = once;
+    once == again && again == rules.decide(q)
+}
+
+#[test]
+fn what_a_narrow_rulebook_decides_is_compared(rt: HostRuntime) {
+    let here = question(Group::Load, [0, 16, 0, 0, 0]);
+    let below = question(Group::Load, [1, 16, 0, 0, 0]);
+    let beyond = question(Group::Load, [256, 16, 0, 0, 0]);
+    assert!(rt; agrees(&DepthIsolation, here, here));
+    assert!(rt; !agrees(&DepthIsolation, here, below));
+    assert!(rt; agrees(&WriteOrExecute, below, beyond));
+    assert!(rt; !agrees(&WriteOrExecute, here, below));
+    assert!(rt; agrees(&AtDepthZero, below, beyond));
+    let mut alone = Alone { rules: AtDepthZero };
+    let denial = Denial {
+        half: Half::Alone,
+        violation: 3,
+    };
+    assert_eq!(rt; alone.ask(below), Err(denial));
+    assert_eq!(rt; alone.ask(here), Ok(Tags { pc: 0, r: 0 }));
 }
 
 #[test]

@@ -1,6 +1,7 @@
 ghost use Rattle.std.specs.Prelude.{◌≡◌, ◌+◌, ◌*◌, ◌%◌, ◌^◌, ◌<◌, ◌≤◌, ◌&&◌, length, replicate, IfOk, ◌==◌, nat_le, nat_lt, map};
 ghost use Rattle.std.specs.Result.{result_err};
 ghost use Rattle.machine.specs.Cells.{blank};
+ghost use Rattle.image.specs.Bytes.{field};
 ghost use Rattle.image.specs.Content.{Reaches, Says, content_stored, words_in};
 ghost use Rattle.image.specs.Judgement.{header_refusal, part_refusal};
 ghost use Rattle.image.specs.Part.{HeaderFits, header_section};
@@ -196,11 +197,18 @@ fn store_words(cells: &mut [Cell], bytes: &[u8], tag: u32)
     ensures { cells.new ≡ map (tagged tag) (words_in (length cells.old) bytes.now) }
 {
     for (i, cell) in cells.iter_mut().enumerate() {
-        *cell = Cell {
-            word: u32_at(bytes, 4 * i),
-            tag,
-        };
+        store_word(cell, bytes, 4 * i, tag);
     }
+}
+
+fn store_word(cell: &mut Cell, bytes: &[u8], place: usize, tag: u32)
+    requires { place + 4 ≤ length bytes.now }
+    ensures { cell.new ≡ tagged tag (field 4 place bytes.now) }
+{
+    *cell = Cell {
+        word: u32_at(bytes, place),
+        tag,
+    };
 }
 
 // The words stay.
@@ -208,8 +216,14 @@ fn store_tags(cells: &mut [Cell], tag: u32)
     ensures { cells.new ≡ map (λ cell. tagged tag cell.word) cells.old }
 {
     for cell in cells.iter_mut() {
-        cell.tag = tag;
+        store_tag(cell, tag);
     }
+}
+
+fn store_tag(cell: &mut Cell, tag: u32)
+    ensures { cell.new ≡ tagged tag cell.old.word }
+{
+    cell.tag = tag;
 }
 
 fn clear(cells: &mut [Cell])

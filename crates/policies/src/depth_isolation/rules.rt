@@ -24,6 +24,8 @@ impl Narrow for DepthIsolation {
 
     ghost narrow = { Prim.search rules };
 
+    ghost told = { λ v w. Prim.search rules };
+
     fn decide(&self, q: Question) -> Ruling
         ensures answers { result ≡ depth_isolation q }
         ensures lawful { Lawful q result }

@@ -9,5 +9,5 @@ pub loop-cell-preserved : goal.loop-cell-preserved
 loop-cell-preserved c =
     let cells = c.loop-cell.cells in
     let i = c.loop-cell.cell-index in
-    map_over_more (λ cell. tagged c.args.tag cell.word) c.args.cells.now cells i (get_or cells i blank) (omega arith) c.loop-cell.invariant
-    (get_or_default cells i blank (get_or cells i blank) (omega arith))
+    rw c.store_tag.ensures (map_over_more (λ cell. tagged c.args.tag cell.word) c.args.cells.now cells i (get_or cells i blank) (omega arith) c.loop-cell.invariant
+    (get_or_default cells i blank (get_or cells i blank) (omega arith)))
