@@ -6,7 +6,6 @@ use Rattle.rulebook.specs.declared.group.Group.{Group}
 use Rattle.rulebook.specs.declared.group.Group.TheVariants.{Load, Store, Call, Ret, Fetch}
 use Rattle.rulebook.specs.declared.question.Question.{Question}
 use Rattle.policies.specs.DepthIsolation.{depth_isolation}
-use Rattle.policies.specs.DepthViolation.{violation_number}
 use Rattle.instruction.specs.declared.operation.Operation.TheVariants.{Sub, Shl}
 use Rattle.instruction.specs.Operation.{computed}
 use Rattle.cases.specs.declared.case.Case.{Case}
@@ -36,5 +35,5 @@ marked =
     ∷ []
 
 abbrev pub Holds : Case → Type 0
-Holds (Asked question answer) = by_half violation_number Alone (depth_isolation question) ≡ answer
+Holds (Asked question answer) = by_half Alone (depth_isolation question) ≡ answer
 Holds (Computed op x y result) = computed op x y ≡ result

@@ -5,7 +5,6 @@ use Rattle.rulebook.specs.declared.answer.Half.TheVariants.{Alone}
 use Rattle.rulebook.specs.Answer.{by_half}
 use Rattle.rulebook.specs.Group.{number_of}
 use Rattle.policies.specs.DepthIsolation.{depth_isolation}
-use Rattle.policies.specs.DepthViolation.{violation_number}
 use Rattle.machine.specs.declared.cell.Cell.{Cell}
 use Rattle.machine.specs.declared.records.Record.{Record}
 use Rattle.machine.specs.declared.state.End.TheVariants.{Stopped}
@@ -44,7 +43,7 @@ shown (entry ∷ records) = cond (number_of entry.question.group == number_of Ou
 
 -- under Depth Isolation, with a budget of 64 steps and places for all records
 abbrev pub doubled : RunOutcome
-doubled = answer doubling (run (λ question. by_half violation_number Alone (depth_isolation question)) 64 64 (start_state 0 0 16) (replicate 16 blank))
+doubled = answer doubling (run (λ question. by_half Alone (depth_isolation question)) 64 64 (start_state 0 0 16) (replicate 16 blank))
 
 -- it shows 14, and halts with its tenth step at pc 3
 pub record Doubles : Type 0 where

@@ -7,18 +7,27 @@ use crate::operation::Operation;
 
 impl Instruction {
     /// The instruction of a word, absent where the word is illegal.
-    #[tactic(auto, unfolding(crate::specs::Decode::decoded))]
     pub fn decode(word: u32) -> Option<Instruction>
         ensures decoded { result ≡ decoded word }
         ensures lawful { Decodes word result }
     {
-        of_fields(
-            word >> 24,
-            ((word >> 20) % 16) as u8,
-            ((word >> 16) % 16) as u8,
-            word % 65536,
-        )
+        unpacked(word)
     }
+}
+
+// What a word says, with the laws of the layout: the lemma is cited here, so that a wrong `decode` is refused at its
+// contract.
+#[tactic(auto, unfolding(crate::specs::Decode::decoded))]
+fn unpacked(word: u32) -> Option<Instruction>
+    ensures decoded { result ≡ decoded word }
+    ensures lawful { Decodes word result }
+{
+    of_fields(
+        word >> 24,
+        ((word >> 20) % 16) as u8,
+        ((word >> 16) % 16) as u8,
+        word % 65536,
+    )
 }
 
 fn of_fields(op: u32, d: u8, s: u8, k: u32) -> Option<Instruction>

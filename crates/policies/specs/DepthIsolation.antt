@@ -4,7 +4,7 @@ use Rattle.rulebook.specs.declared.answer.Tags.{Tags}
 use Rattle.rulebook.specs.declared.group.Group.{Group}
 use Rattle.rulebook.specs.declared.group.Group.TheVariants as group
 use Rattle.rulebook.specs.declared.question.Question.{Question}
-use Rattle.rulebook.specs.Answer.{allowed}
+use Rattle.rulebook.specs.Answer.{NarrowAnswer, allowed, by_number}
 use Rattle.rulebook.specs.Group.{is_post}
 use Rattle.policies.specs.declared.depth_isolation.rules.Target.{Target}
 use Rattle.policies.specs.declared.depth_isolation.rules.Target.TheVariants as own
@@ -16,6 +16,7 @@ use Rattle.policies.specs.declared.depth_isolation.tags.RegisterTag.{RegisterTag
 use Rattle.policies.specs.declared.depth_isolation.tags.RegisterTag.TheVariants.{Data, Link}
 use Rattle.policies.specs.declared.depth_isolation.violation.DepthViolation.{DepthViolation}
 use Rattle.policies.specs.declared.depth_isolation.violation.DepthViolation.TheVariants.{NoDepth, NotCode, UnknownTag, ForeignCell, EmptyCell, CodeCell, StrayLink, NotEmpty, TooDeep, NoReturn}
+use Rattle.policies.specs.DepthViolation.{violation_number}
 use Rattle.policies.specs.DepthTag.{code_tag, cell_tag, cell_number, register_tag, register_number}
 
 -- what the rules say of a question: the tags that they allow, or why not
@@ -119,5 +120,9 @@ module _ (q : Question) where
       cond (nat_lt deepest q.pc) (Err NoDepth)
       (cond (is_post g) (on_post q.pc q.m) (from_code (code_tag q.ci) g))
 
-abbrev pub depth_isolation : Question → Ruling
-depth_isolation q = on_group q q.group
+abbrev pub ruling : Question → Ruling
+ruling q = on_group q q.group
+
+-- and what it answers, with the violation by its number
+abbrev pub depth_isolation : Question → NarrowAnswer
+depth_isolation q = by_number violation_number (ruling q)

@@ -3,12 +3,13 @@ use Rattle.std.specs.Prelude.{◌≡◌, ℕ, ◌+◌, ◌≤◌, true, IfOk, �
 use Rattle.rulebook.specs.declared.group.Group.{Group}
 use Rattle.rulebook.specs.declared.group.Group.TheVariants.{Move, Load, Store, Call, Ret, Post}
 use Rattle.rulebook.specs.declared.question.Question.{Question}
+use Rattle.rulebook.specs.Answer.{NarrowAnswer}
 use Rattle.rulebook.specs.Question.{same}
 use Rattle.policies.specs.declared.depth_isolation.tags.Code.TheVariants.{Ordinary, Claiming, Clearing}
 use Rattle.policies.specs.declared.depth_isolation.tags.CellTag.TheVariants.{Plain, Empty, Frame, SavedLink}
 use Rattle.policies.specs.declared.depth_isolation.tags.RegisterTag.TheVariants.{Link}
 use Rattle.policies.specs.DepthTag.{code_number, cell_number, register_number}
-use Rattle.policies.specs.DepthIsolation.{Ruling, deepest, depth_isolation}
+use Rattle.policies.specs.DepthIsolation.{deepest, depth_isolation}
 
 -- the tag of a cell in the frame of depth e
 abbrev pub OwnFrame : ℕ → ℕ → Type 0
@@ -39,7 +40,7 @@ LinkComesFrom g q c =
     ⊎ (((g ≡ Move) × (q.a ≡ register_number (Link c)))
     ⊎ ((g ≡ Load) × (q.pc ≡ c + 1) × (q.m ≡ cell_number (SavedLink (c + 1)))))
 
-pub record Lawful (q : Question) (answer : Ruling) : Type 0 where
+pub record Lawful (q : Question) (answer : NarrowAnswer) : Type 0 where
   -- nothing but the six numbers of a question counts
   pub by_numbers : (p : Question) → same p q ≡ true → depth_isolation p ≡ answer
   -- all but POST is asked from a cell of code

@@ -1,12 +1,11 @@
 -- What Write or execute is for: laws that every answer obeys.
-use Rattle.std.specs.Prelude.{◌≡◌, IfOk, Result, ◌≢◌}
-use Rattle.rulebook.specs.declared.answer.Tags.{Tags}
+use Rattle.std.specs.Prelude.{◌≡◌, IfOk, ◌≢◌}
 use Rattle.rulebook.specs.declared.group.Group.TheVariants.{Post}
 use Rattle.rulebook.specs.declared.question.Question.{Question}
-use Rattle.policies.specs.declared.write_or_execute.WriteOrExecuteViolation.{WriteOrExecuteViolation}
+use Rattle.rulebook.specs.Answer.{NarrowAnswer}
 use Rattle.policies.specs.WriteOrExecute.{data_tag, code_tag}
 
-pub record Lawful (q : Question) (answer : Result Tags WriteOrExecuteViolation) : Type 0 where
+pub record Lawful (q : Question) (answer : NarrowAnswer) : Type 0 where
   -- what is executed is code, and so not what the same question reads or writes
   pub executes_code : (q.group ≢ Post) → IfOk answer (λ _. (q.ci ≡ code_tag) × (q.ci ≢ q.m))
   -- what is read or written is data, and stays so

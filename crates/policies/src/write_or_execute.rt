@@ -3,7 +3,7 @@ ghost use Rattle.policies.specs.WriteOrExecute.{violation_number, write_or_execu
 ghost use Rattle.policies.specs.WriteOrExecuteLaw.{Lawful};
 ghost use Rattle.std.proofs.Common.{rules};
 
-use rulebook::{Group, Narrow, Question, Tags, Violation};
+use rulebook::{Group, Narrow, NarrowAnswer, Question, Tags, Violation};
 
 /// Why Write or execute denies.
 #[derive(Clone, Copy, PartialEq, Eq, Debug)]
@@ -35,26 +35,22 @@ const CODE: u32 = 1;
 pub struct WriteOrExecute;
 
 impl Narrow for WriteOrExecute {
-    type Violation = WriteOrExecuteViolation;
-
     ghost rules = { λ _. write_or_execute };
 
     ghost narrow = { Prim.search rules };
 
-    ghost told = { λ v w. Prim.search rules };
-
-    fn decide(&self, q: Question) -> Result<Tags, WriteOrExecuteViolation>
+    fn decide(&self, q: Question) -> NarrowAnswer
         ensures answers { result ≡ write_or_execute q }
         ensures lawful { Lawful q result }
     {
         if q.pc != 0 || q.a != 0 || q.b != 0 {
-            return Err(WriteOrExecuteViolation::Tagged);
+            return WriteOrExecuteViolation::Tagged.denied();
         }
         if q.group != Group::Post && q.ci != CODE {
-            return Err(WriteOrExecuteViolation::NotCode);
+            return WriteOrExecuteViolation::NotCode.denied();
         }
         if q.m != DATA {
-            return Err(WriteOrExecuteViolation::NotData);
+            return WriteOrExecuteViolation::NotData.denied();
         }
         Ok(Tags { pc: 0, r: DATA })
     }

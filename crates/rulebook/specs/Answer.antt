@@ -14,6 +14,10 @@ half_number half.Upper = 2
 abbrev pub Answer : Type 0
 Answer = Result Tags Denial
 
+-- the same of a narrow rulebook, which cannot tell which half it is: why not is the number of a violation
+abbrev pub NarrowAnswer : Type 0
+NarrowAnswer = Result Tags ℕ
+
 -- allowed, with the tags that the program counter and the result then have
 abbrev pub allowed : {V : Type 0} → ℕ → ℕ → Result Tags V
 allowed pc r = Ok (record { pc = pc; r = r })
@@ -22,7 +26,12 @@ allowed pc r = Ok (record { pc = pc; r = r })
 abbrev pub IsNarrow : Tags → Type 0
 IsNarrow tags = (tags.pc ≤ 65535) × (tags.r ≤ 65535)
 
--- what a narrow rulebook answers, said by one half of a rulebook: its violation then is a number
-abbrev pub by_half : {V : Type 0} → (V → ℕ) → Half → Result Tags V → Answer
-by_half number half (Ok tags) = Ok tags
-by_half number half (Err violation) = Err (record { half = half; violation = number violation })
+-- what rules say, with a violation by its number
+abbrev pub by_number : {V : Type 0} → (V → ℕ) → Result Tags V → NarrowAnswer
+by_number number (Ok tags) = Ok tags
+by_number number (Err violation) = Err (number violation)
+
+-- what a narrow rulebook answers, said by one half of a rulebook
+abbrev pub by_half : Half → NarrowAnswer → Answer
+by_half half (Ok tags) = Ok tags
+by_half half (Err violation) = Err (record { half = half; violation = violation })

@@ -3,7 +3,7 @@ use Rattle.std.specs.Prelude.{◌≡◌, ℕ, ◌+◌, ◌*◌, ◌^◌, Ok, Err
 use Rattle.rulebook.specs.declared.answer.Half.TheVariants.{Lower, Upper}
 use Rattle.rulebook.specs.declared.answer.Tags.{Tags}
 use Rattle.rulebook.specs.declared.question.Question.{Question}
-use Rattle.rulebook.specs.Answer.{Answer, allowed, by_half}
+use Rattle.rulebook.specs.Answer.{Answer, NarrowAnswer, allowed, by_half}
 use Rattle.rulebook.specs.Question.{each, low, high}
 
 -- a tag made of its two halves
@@ -17,8 +17,8 @@ both (Ok low) (Err denial) = Err denial
 both (Ok low) (Ok high) = allowed (joined low.pc high.pc) (joined low.r high.r)
 
 -- each part is asked with its half of every tag
-abbrev pub pair : {V W : Type 0} → (V → ℕ) → (W → ℕ) → (Question → Result Tags V) → (Question → Result Tags W) → Question → Answer
-pair number number' lower upper q = both (by_half number Lower (lower (each low q))) (by_half number' Upper (upper (each high q)))
+abbrev pub pair : (Question → NarrowAnswer) → (Question → NarrowAnswer) → Question → Answer
+pair lower upper q = both (by_half Lower (lower (each low q))) (by_half Upper (upper (each high q)))
 
 -- What a pair allows, each part has allowed, with its half of every tag: neither part's tags run into the other's.
 pub record Halves {V W : Type 0} (lower : Result Tags V) (upper : Result Tags W) (answer : Answer) : Type 0 where

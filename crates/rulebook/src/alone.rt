@@ -14,11 +14,11 @@ pub struct Alone<N> {
 }
 
 impl<N: Narrow> Rulebook for Alone<N> {
-    ghost meaning = { λ s q. answered N.Violation.numbered half.Alone (N.Narrow.rules s.rules q) };
+    ghost meaning = { λ s q. answered half.Alone (N.Narrow.rules s.rules q) };
 
     fn ask(&mut self, q: Question) -> Answer
-        ensures answers { result ≡ answered N.Violation.numbered half.Alone (N.Narrow.rules self.old.rules q) }
-        ensures keeps { (p : Question) → answered N.Violation.numbered half.Alone (N.Narrow.rules self.new.rules p) ≡ answered N.Violation.numbered half.Alone (N.Narrow.rules self.old.rules p) }
+        ensures answers { result ≡ answered half.Alone (N.Narrow.rules self.old.rules q) }
+        ensures keeps { (p : Question) → answered half.Alone (N.Narrow.rules self.new.rules p) ≡ answered half.Alone (N.Narrow.rules self.old.rules p) }
         ensures same { self.new ≡ self.old }
     {
         by_half(Half::Alone, self.rules.decide(q))

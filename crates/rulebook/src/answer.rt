@@ -1,7 +1,5 @@
-ghost use Rattle.std.specs.Prelude.{◌≡◌, Result};
+ghost use Rattle.std.specs.Prelude.{◌≡◌};
 ghost use Rattle.rulebook.specs.Answer.{half_number, by_half};
-
-use super::violation::Violation;
 
 /// Which part of a rulebook denied.
 #[derive(Clone, Copy, PartialEq, Eq, Debug)]
@@ -40,12 +38,13 @@ pub struct Denial {
 /// What a rulebook answers.
 pub type Answer = Result<Tags, Denial>;
 
+/// What a narrow rulebook answers: it cannot tell which half it is. Why it denies is the number of a violation, so that
+/// rulebooks of any violations can stand behind one interface, `dyn Narrow` among them.
+pub type NarrowAnswer = Result<Tags, u8>;
+
 // What a narrow rulebook answers, said by one half of a rulebook.
-pub(crate) fn by_half<V: Violation>(half: Half, answer: Result<Tags, V>) -> Answer
-    ensures { result ≡ by_half V.numbered half answer }
+pub(crate) fn by_half(half: Half, answer: NarrowAnswer) -> Answer
+    ensures { result ≡ by_half half answer }
 {
-    answer.map_err(|violation| Denial {
-        half,
-        violation: violation.number(),
-    })
+    answer.map_err(|violation| Denial { half, violation })
 }

@@ -1,12 +1,9 @@
-ghost use Rattle.std.specs.Prelude.{◌≡◌, Decides, IfOk, Result};
+ghost use Rattle.std.specs.Prelude.{◌≡◌, IfOk};
 ghost use Rattle.rulebook.specs.declared.question.Question.{Question};
-ghost use Rattle.rulebook.specs.declared.answer.Tags.{Tags};
-ghost use Rattle.rulebook.specs.Answer.{Answer, IsNarrow};
+ghost use Rattle.rulebook.specs.Answer.{Answer, IsNarrow, NarrowAnswer};
 
-use super::answer::{Answer, Tags};
+use super::answer::{Answer, NarrowAnswer};
 use super::question::Question;
-use super::violation::Violation;
-use std::fmt::Debug;
 
 /// A rulebook means one answer for every question.  Asking may change what it holds, as a cache
 /// does, and never what it means.
@@ -20,15 +17,10 @@ pub trait Rulebook {
 
 /// A rulebook whose tags have 16 bits, so that two of them can share a tag of 32.
 pub trait Narrow {
-    type Violation: Violation + Copy + Eq + Debug;
+    ghost rules: { Self → Question → NarrowAnswer };
 
-    ghost rules: { Self → Question → Result Tags Self.Violation };
-
-    fn decide(&self, q: Question) -> Result<Tags, Self::Violation>
+    fn decide(&self, q: Question) -> NarrowAnswer
         ensures answers { result ≡ rules self.now q };
 
     ghost narrow: { (n : Self) (q : Question) → IfOk (rules n q) IsNarrow };
-
-    // `==` tells whether two violations are one and the same.
-    ghost told: { (v w : Self.Violation) → Decides (Self.Violation.PartialEq.eq v w) (v ≡ w) };
 }

@@ -12,7 +12,7 @@ mod question;
 mod violation;
 
 pub use alone::Alone;
-pub use answer::{Answer, Denial, Half, Tags};
+pub use answer::{Answer, Denial, Half, NarrowAnswer, Tags};
 pub use cache::Cache;
 pub use entry::Entry;
 pub use group::{Group, UnknownGroup};

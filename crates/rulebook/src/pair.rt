@@ -16,11 +16,11 @@ pub struct Pair<L, U> {
 }
 
 impl<L: Narrow, U: Narrow> Rulebook for Pair<L, U> {
-    ghost meaning = { λ s. paired L.Violation.numbered U.Violation.numbered (L.Narrow.rules s.lower) (U.Narrow.rules s.upper) };
+    ghost meaning = { λ s. paired (L.Narrow.rules s.lower) (U.Narrow.rules s.upper) };
 
     fn ask(&mut self, q: Question) -> Answer
-        ensures answers { result ≡ paired L.Violation.numbered U.Violation.numbered (L.Narrow.rules self.old.lower) (U.Narrow.rules self.old.upper) q }
-        ensures keeps { (p : Question) → paired L.Violation.numbered U.Violation.numbered (L.Narrow.rules self.new.lower) (U.Narrow.rules self.new.upper) p ≡ paired L.Violation.numbered U.Violation.numbered (L.Narrow.rules self.old.lower) (U.Narrow.rules self.old.upper) p }
+        ensures answers { result ≡ paired (L.Narrow.rules self.old.lower) (U.Narrow.rules self.old.upper) q }
+        ensures keeps { (p : Question) → paired (L.Narrow.rules self.new.lower) (U.Narrow.rules self.new.upper) p ≡ paired (L.Narrow.rules self.old.lower) (U.Narrow.rules self.old.upper) p }
         ensures same { self.new ≡ self.old }
         ensures halves { Halves (L.Narrow.rules self.old.lower (each low q)) (U.Narrow.rules self.old.upper (each high q)) result }
     {

@@ -1,4 +1,6 @@
-ghost use Rattle.std.specs.Prelude.{◌≡◌, ℕ};
+ghost use Rattle.std.specs.Prelude.{◌≡◌, ℕ, Err};
+
+use super::answer::NarrowAnswer;
 
 /// Why a narrow rulebook denies: an enum of its own, of which each case has a number.
 pub trait Violation: Sized {
@@ -7,13 +9,10 @@ pub trait Violation: Sized {
     // No `From`: its `from_gives` is a relation, and what a rulebook means needs a function of the violation.
     fn number(self) -> u8
         ensures { result ≡ numbered self };
-}
 
-/// A number is a violation, for rulebooks that have no enum of theirs.
-impl Violation for u8 {
-    ghost numbered = { λ number. number };
-
-    fn number(self) -> u8 {
-        self
+    fn denied(self) -> NarrowAnswer
+        ensures { result ≡ Err (numbered self) }
+    {
+        Err(self.number())
     }
 }

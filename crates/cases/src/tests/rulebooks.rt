@@ -5,7 +5,7 @@ ghost use Rattle.rulebook.specs.Answer.{allowed};
 use crate::{Case, marked_cases};
 use policies::{DepthIsolation, WriteOrExecute};
 use rulebook::{
-    Alone, Cache, Denial, Group, Half, Narrow, Pair, Question, Rulebook, Tags, Violation,
+    Alone, Cache, Denial, Group, Half, Narrow, NarrowAnswer, Pair, Question, Rulebook, Tags,
 };
 use std::test::Fail;
 use transcript::{read_numbers, read_question};
@@ -54,7 +54,7 @@ fn each_violation_of_depth_isolation(rt: HostRuntime) {
     ];
     for (group, tags, violation) in cases {
         let answer = DepthIsolation.decide(question(group, tags));
-        assert_eq!(rt; answer.map_err(|denied| denied.number()), Err(violation));
+        assert_eq!(rt; answer, Err(violation));
     }
 }
 
@@ -70,8 +70,7 @@ fn each_violation_of_write_or_execute(rt: HostRuntime) {
         (Group::Store, [0, 1, 0, 0, 1], Err(3)),
     ];
     for (group, tags, answer) in cases {
-        let ruling = WriteOrExecute.decide(question(group, tags));
-        assert_eq!(rt; ruling.map_err(|denied| denied.number()), answer);
+        assert_eq!(rt; WriteOrExecute.decide(question(group, tags)), answer);
     }
 }
 
@@ -80,15 +79,11 @@ fn each_violation_of_write_or_execute(rt: HostRuntime) {
 struct AtDepthZero;
 
 impl Narrow for AtDepthZero {
-    type Violation = u8;
-
     ghost rules = { λ _ q. cond (q.pc == 0) (allowed 0 0) (Err 3) };
 
     ghost narrow = { λ _ q. Prim.search rules };
 
-    ghost told = { λ v w. Prim.search rules };
-
-    fn decide(&self, q: Question) -> Result<Tags, u8> {
+    fn decide(&self, q: Question) -> NarrowAnswer {
         if q.pc == 0 {
             Ok(Tags { pc: 0, r: 0 })
         } else {
@@ -121,6 +116,24 @@ fn what_a_narrow_rulebook_decides_is_compared(rt: HostRuntime) {
     };
     assert_eq!(rt; alone.ask(below), Err(denial));
     assert_eq!(rt; alone.ask(here), Ok(Tags { pc: 0, r: 0 }));
+}
+
+// One of several rulebooks, chosen when the program runs.
+fn chosen(number: u32, q: Question) -> NarrowAnswer {
+    let rules: &dyn Narrow = match number {
+        0 => &DepthIsolation,
+        1 => &WriteOrExecute,
+        _ => &AtDepthZero,
+    };
+    rules.decide(q)
+}
+
+#[test]
+fn a_narrow_rulebook_is_chosen_by_a_number(rt: HostRuntime) {
+    let below = question(Group::Load, [1, 16, 0, 0, 0]);
+    assert_eq!(rt; chosen(0, below), Ok(Tags { pc: 1, r: 0 }));
+    assert_eq!(rt; chosen(1, below), Err(1));
+    assert_eq!(rt; chosen(2, below), Err(3));
 }
 
 #[test]

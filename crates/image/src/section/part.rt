@@ -1,13 +1,13 @@
-ghost use Rattle.std.specs.Prelude.{◌≡◌, ◌+◌, ◌*◌, ◌%◌, ◌^◌, ◌<◌, ◌≤◌, ◌&&◌, length, replicate, IfOk, ◌==◌, nat_le, nat_lt, map};
+ghost use Rattle.std.specs.Prelude.{◌≡◌, ◌+◌, ◌*◌, ◌/◌, ◌%◌, ◌^◌, ◌<◌, ◌≤◌, ◌&&◌, length, replicate, IfOk, ◌==◌, nat_le, nat_lt, map};
 ghost use Rattle.std.specs.Result.{result_err};
 ghost use Rattle.machine.specs.Cells.{blank};
 ghost use Rattle.image.specs.Bytes.{field};
-ghost use Rattle.image.specs.Content.{Reaches, Says, content_stored, words_in};
+ghost use Rattle.image.specs.Content.{Reaches, Says, all_words, content_stored, words_in};
 ghost use Rattle.image.specs.Judgement.{header_refusal, part_refusal};
-ghost use Rattle.image.specs.Part.{HeaderFits, header_section};
+ghost use Rattle.image.specs.Part.{HeaderFits, header_section, words as words_part, tags as tags_part};
 ghost use Rattle.image.specs.Reading.{Lies};
 ghost use Rattle.image.specs.Section.{marked};
-ghost use Rattle.image.specs.Stored.{tagged};
+ghost use Rattle.image.specs.Stored.{stored, tagged};
 
 use super::kind::Kind;
 use super::{HEAD, Reader, Span, u16_at, u32_at};
@@ -172,22 +172,30 @@ impl Content<'_> {
                 address,
                 tag,
                 bytes,
-            } => {
-                let start = usize::from(address);
-                store_words(&mut cells[start..start + bytes.len() / 4], bytes, tag);
-            }
+            } => set_words(cells, usize::from(address), bytes, tag),
             Content::Tags {
                 address,
                 count,
                 tag,
-            } => {
-                let start = usize::from(address);
-                store_tags(&mut cells[start..start + usize::from(count)], tag);
-            }
+            } => set_tags(cells, usize::from(address), usize::from(count), tag),
             Content::Names => {}
             Content::Note => {}
         }
     }
+}
+
+fn set_words(cells: &mut [Cell], address: usize, bytes: &[u8], tag: u32)
+    requires { address + length bytes.now / 4 ≤ length cells.old }
+    ensures { cells.new ≡ stored (words_part address tag (all_words bytes.now)) cells.old }
+{
+    store_words(&mut cells[address..address + bytes.len() / 4], bytes, tag);
+}
+
+fn set_tags(cells: &mut [Cell], address: usize, count: usize, tag: u32)
+    requires { address + count ≤ length cells.old }
+    ensures { cells.new ≡ stored (tags_part address count tag) cells.old }
+{
+    store_tags(&mut cells[address..address + count], tag);
 }
 
 // Sets each cell to a word of four bytes, with one tag. By the index, since the library says nothing of cells lent by a `zip`

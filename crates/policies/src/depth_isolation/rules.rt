@@ -1,13 +1,14 @@
 ghost use Rattle.std.specs.Prelude.{◌≡◌, ◌+◌, ◌==◌, Result};
-ghost use Rattle.rulebook.specs.Answer.{allowed};
+ghost use Rattle.rulebook.specs.Answer.{allowed, by_number};
 ghost use Rattle.policies.specs.DepthLaw.{Lawful};
 ghost use Rattle.policies.specs.DepthTag.{cell_tag, register_tag};
-ghost use Rattle.policies.specs.DepthIsolation.{on_move as moving, reach as reaching, on_load as loading, on_call as calling, on_ret as returning, on_post as posting, plain_store, frame_store, ordinary_store, claiming_store, clearing_store, on_store as storing, on_op as ruled, depth_isolation};
+ghost use Rattle.policies.specs.DepthViolation.{violation_number};
+ghost use Rattle.policies.specs.DepthIsolation.{on_move as moving, reach as reaching, on_load as loading, on_call as calling, on_ret as returning, on_post as posting, plain_store, frame_store, ordinary_store, claiming_store, clearing_store, on_store as storing, on_op as ruled, ruling, depth_isolation};
 ghost use Rattle.std.proofs.Common.{rules};
 
 use super::tags::{CellTag, Code, RegisterTag};
 use super::violation::DepthViolation;
-use rulebook::{Group, Narrow, Question, Tags};
+use rulebook::{Group, Narrow, NarrowAnswer, Question, Tags, Violation};
 
 /// Keeps each call depth's frame apart from every other's.  It has no state: an answer depends on
 /// the question alone.
@@ -18,15 +19,11 @@ pub struct DepthIsolation;
 type Ruling = Result<Tags, DepthViolation>;
 
 impl Narrow for DepthIsolation {
-    type Violation = DepthViolation;
-
     ghost rules = { λ _. depth_isolation };
 
     ghost narrow = { Prim.search rules };
 
-    ghost told = { λ v w. Prim.search rules };
-
-    fn decide(&self, q: Question) -> Ruling
+    fn decide(&self, q: Question) -> NarrowAnswer
         ensures answers { result ≡ depth_isolation q }
         ensures lawful { Lawful q result }
     {
@@ -36,15 +33,22 @@ impl Narrow for DepthIsolation {
 
 // What the rules say of a question, with the laws that this obeys: the lemma is cited here, so that a wrong `decide` is
 // refused at its contract.
-fn judged(q: Question) -> Ruling
+fn judged(q: Question) -> NarrowAnswer
     ensures answers { result ≡ depth_isolation q }
     ensures lawful { Lawful q result }
 {
-    judge(q)
+    by_number(judge(q))
+}
+
+// What the rules say, with the violation by its number.
+fn by_number(ruling: Ruling) -> NarrowAnswer
+    ensures { result ≡ by_number violation_number ruling }
+{
+    ruling.map_err(|violation| violation.number())
 }
 
 fn judge(q: Question) -> Ruling
-    ensures { result ≡ depth_isolation q }
+    ensures { result ≡ ruling q }
 {
     let Ok(depth) = u8::try_from(q.pc) else {
         return Err(DepthViolation::NoDepth);
