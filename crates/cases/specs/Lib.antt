@@ -1,3 +1,4 @@
+pub mod AtDepthZero
 pub mod Marked
 pub mod Routine
 pub mod Sample

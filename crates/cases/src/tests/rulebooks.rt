@@ -1,8 +1,4 @@
-ghost use Rattle.std.specs.Prelude.{◌≡◌, ◌==◌, cond, Err};
-ghost use Rattle.std.proofs.Common.{rules};
-ghost use Rattle.rulebook.specs.Answer.{allowed};
-
-use crate::{Case, marked_cases};
+use crate::{AtDepthZero, Case, marked_cases};
 use policies::{DepthIsolation, WriteOrExecute};
 use rulebook::{
     Alone, Cache, Denial, Group, Half, Narrow, NarrowAnswer, Pair, Question, Rulebook, Tags,
@@ -71,24 +67,6 @@ fn each_violation_of_write_or_execute(rt: HostRuntime) {
     ];
     for (group, tags, answer) in cases {
         assert_eq!(rt; WriteOrExecute.decide(question(group, tags)), answer);
-    }
-}
-
-// A narrow rulebook that has no enum of violations: it allows at depth 0 alone, and its one violation is the number 3.
-#[derive(Clone, Copy)]
-struct AtDepthZero;
-
-impl Narrow for AtDepthZero {
-    ghost rules = { λ _ q. cond (q.pc == 0) (allowed 0 0) (Err 3) };
-
-    ghost narrow = { λ _ q. Prim.search rules };
-
-    fn decide(&self, q: Question) -> NarrowAnswer {
-        if q.pc == 0 {
-            Ok(Tags { pc: 0, r: 0 })
-        } else {
-            Err(3)
-        }
     }
 }
 
